@@ -1,0 +1,191 @@
+ghost use Rattle.std.specs.Prelude.{◌≡◌, ◌<◌};
+
+use crate::{
+    Items, MemorySink, MemorySource, Pattern, Place, Places, Range, ReadStop, Sink, Source,
+    StdSink, StdSource, Text, WriteStop, read_all, write_all,
+};
+use std::alloc::{AllocError, Global};
+use std::io;
+use std::test::Fail;
+
+#[test]
+fn patterns_give_their_words(rt: HostRuntime) {
+    let cases = [
+        (Pattern::Const(7), 4_000_000_000, 7),
+        (Pattern::Iota(5, 3), 0, 5),
+        (Pattern::Iota(5, 3), 4, 17),
+        (Pattern::Iota(u64::MAX, 1), 2, 1),
+        (Pattern::Mix(0), 0, 1442695040888963407),
+        (Pattern::Mix(0), 1, 7806831264735756412),
+        (Pattern::Mix(0), 2, 14170967488582549417),
+        (Pattern::Mix(0), 3, 2088359638719790806),
+        (Pattern::Mix(2), 1, 2088359638719790806),
+    ];
+    for (pattern, index, word) in cases {
+        assert_eq!(rt; pattern.at(index), word, "at {index}");
+    }
+}
+
+#[test]
+fn a_text_is_copied(rt: HostRuntime) -> Result<(), Fail> {
+    assert_eq!(rt; Text::of(rt.alloc(), "régions")?.as_str(), "régions");
+    Ok(())
+}
+
+#[test]
+fn items_stand_in_the_order_of_their_pushes(rt: HostRuntime) -> Result<(), Fail> {
+    let mut items = Items::new(rt.alloc());
+    items.push(3)?;
+    items.push(1)?;
+    assert_eq!(rt; items.items(), [3, 1].as_slice());
+    assert_eq!(rt; items.into_vec().as_slice(), [3, 1].as_slice());
+    Ok(())
+}
+
+fn range(region: u32, low: u32, high: u32) -> Range
+    ensures low { result.low ≡ low }
+    ensures high { result.high ≡ high }
+{
+    Range { region, low, high }
+}
+
+#[test]
+fn ranges_join_where_they_overlap_or_touch(rt: HostRuntime) -> Result<(), Fail> {
+    let mut places = Places::new(rt.alloc());
+    places.add(range(1, 10, 20))?;
+    places.add(range(1, 30, 40))?;
+    places.add(range(0, 30, 40))?;
+    assert_eq!(rt;
+        places.ranges(),
+        [range(0, 30, 40), range(1, 10, 20), range(1, 30, 40)].as_slice()
+    );
+    places.add(range(1, 20, 25))?;
+    assert_eq!(rt;
+        places.ranges(),
+        [range(0, 30, 40), range(1, 10, 25), range(1, 30, 40)].as_slice()
+    );
+    places.add(range(1, 25, 30))?;
+    assert_eq!(rt;
+        places.ranges(),
+        [range(0, 30, 40), range(1, 10, 40)].as_slice()
+    );
+    places.add(range(1, 5, 12))?;
+    places.add(range(1, 6, 7))?;
+    places.add(range(2, 0, u32::MAX))?;
+    assert_eq!(rt;
+        places.ranges(),
+        [range(0, 30, 40), range(1, 5, 40), range(2, 0, u32::MAX)].as_slice()
+    );
+    for (region, index, is_there) in [
+        (0, 35, true),
+        (1, 4, false),
+        (1, 5, true),
+        (1, 39, true),
+        (1, 40, false),
+        (3, 5, false),
+    ] {
+        assert_eq!(rt;
+            places.has(Place { region, index }),
+            is_there,
+            "at {region}, {index}"
+        );
+    }
+    Ok(())
+}
+
+fn source(
+    alloc: Global,
+    bytes: &[u8],
+    step: usize,
+    fails: &[u64],
+) -> Result<MemorySource, AllocError>
+    requires { 0 < step }
+{
+    let bytes = Vec::from_slice(alloc, bytes)?;
+    Ok(MemorySource::new(bytes, step, Vec::from_slice(alloc, fails)?))
+}
+
+#[test]
+fn everything_is_read_in_any_steps(rt: HostRuntime) -> Result<(), Fail> {
+    let alloc = rt.alloc();
+    let mut short = source(alloc, b"abc", 1, &[])?;
+    assert_eq!(rt;
+        read_all(alloc, &mut short, 3)?.as_slice(),
+        b"abc".as_slice()
+    );
+    assert_eq!(rt; read_all(alloc, &mut short, 0)?.as_slice(), b"".as_slice());
+    let mut long = source(alloc, &[7; 10_000], 5_000, &[])?;
+    assert_eq!(rt;
+        read_all(alloc, &mut long, 10_000)?.as_slice(),
+        [7; 10_000].as_slice()
+    );
+    Ok(())
+}
+
+#[test]
+fn a_fault_at_any_read_takes_nothing(rt: HostRuntime) -> Result<(), Fail> {
+    let alloc = rt.alloc();
+    for (call, rest) in [(1, "abc"), (2, "bc"), (3, "c"), (4, "")] {
+        let mut source = source(alloc, b"abc", 1, &[call])?;
+        assert_eq!(rt;
+            read_all(alloc, &mut source, 9).err(),
+            Some(ReadStop::Failed),
+            "at {call}"
+        );
+        assert_eq!(rt;
+            read_all(alloc, &mut source, 9)?.as_slice(),
+            rest.as_bytes(),
+            "at {call}"
+        );
+    }
+    Ok(())
+}
+
+#[test]
+fn too_long_takes_one_byte_past_the_limit(rt: HostRuntime) -> Result<(), Fail> {
+    let alloc = rt.alloc();
+    for (limit, rest) in [(0, "bc"), (1, "c"), (2, "")] {
+        let mut source = source(alloc, b"abc", 2, &[])?;
+        assert_eq!(rt;
+            read_all(alloc, &mut source, limit).err(),
+            Some(ReadStop::TooLong),
+            "at {limit}"
+        );
+        assert_eq!(rt;
+            read_all(alloc, &mut source, 9)?.as_slice(),
+            rest.as_bytes(),
+            "at {limit}"
+        );
+    }
+    Ok(())
+}
+
+#[test]
+fn a_fault_at_any_write_leaves_the_front(rt: HostRuntime) -> Result<(), Fail> {
+    let alloc = rt.alloc();
+    let mut whole = MemorySink::new(alloc, 1, Vec::new(alloc));
+    write_all(&mut whole, b"abc")?;
+    assert_eq!(rt; whole.bytes(), b"abc".as_slice());
+    for (call, front) in [(1, ""), (2, "a"), (3, "ab")] {
+        let mut sink = MemorySink::new(alloc, 1, Vec::from_slice(alloc, &[call])?);
+        assert_eq!(rt;
+            write_all(&mut sink, b"abc"),
+            Err(WriteStop::Failed),
+            "at {call}"
+        );
+        assert_eq!(rt; sink.bytes(), front.as_bytes(), "at {call}");
+    }
+    Ok(())
+}
+
+#[test]
+fn standard_ends_pass_bytes_on(rt: HostRuntime) -> Result<(), Fail> {
+    let mut source = StdSource::new(io::Cursor::new(b"abc"));
+    assert_eq!(rt;
+        read_all(rt.alloc(), &mut source, 3)?.as_slice(),
+        b"abc".as_slice()
+    );
+    let mut full = StdSink::new(io::Cursor::new([0; 2]));
+    assert_eq!(rt; write_all(&mut full, b"abc"), Err(WriteStop::Failed));
+    Ok(())
+}

@@ -1,0 +1,74 @@
+ghost use Rattle.std.specs.Prelude.{◌≡◌, ◌≤◌};
+ghost use Rattle.cd_base.specs.Ends.{ReadAll, WriteAll};
+
+use crate::{Bytes, Failed, Sink, Source, WriteStop};
+use std::alloc::{AllocError, Global};
+
+/// Why reading to the end stopped before it.
+#[derive(Debug, Clone, Copy, PartialEq, Eq)]
+pub enum ReadStop {
+    /// A read failed.
+    Failed,
+    /// There are more bytes than the limit allows.
+    TooLong,
+    /// There was not enough memory.
+    NoMemory,
+}
+
+impl From<Failed> for ReadStop {
+    ghost use Rattle.std.specs.Prelude.{◌≡◌};
+    ghost use Rattle.cd_base.specs.declared.transfer.ReadStop.{ReadStop};
+
+    ghost from_gives = { λ _ stop. stop ≡ ReadStop.Failed };
+
+    fn from(_failed: Failed) -> Self {
+        ReadStop::Failed
+    }
+}
+
+impl From<AllocError> for ReadStop {
+    ghost use Rattle.std.specs.Prelude.{◌≡◌};
+    ghost use Rattle.cd_base.specs.declared.transfer.ReadStop.{ReadStop};
+
+    ghost from_gives = { λ _ stop. stop ≡ ReadStop.NoMemory };
+
+    fn from(_error: AllocError) -> Self {
+        ReadStop::NoMemory
+    }
+}
+
+const PIECE: usize = 4096;
+
+/// Reads to the end, in pieces. It never asks for more than one byte past the limit, so what follows stays unread.
+pub fn read_all<S: Source>(alloc: Global, source: &mut S, limit: u32) -> Result<Bytes, ReadStop>
+    ensures meets { ReadAll (S.left source.old) (S.left source.new) (S.faults source.old) (S.faults source.new) limit result }
+    ensures count { S.faults source.old ≤ S.faults source.new }
+{
+    let mut bytes = Vec::new(alloc);
+    let mut buffer = [0; PIECE];
+    let mut room = limit as usize + 1;
+    loop {
+        let most = room.min(PIECE);
+        let count = source.read(&mut buffer[..most])?;
+        if count == 0 {
+            return Ok(Bytes::of(bytes));
+        }
+        if count == room {
+            return Err(ReadStop::TooLong);
+        }
+        bytes.extend_from_slice(&buffer[..count])?;
+        room -= count;
+    }
+}
+
+/// Writes all of `bytes`, in as many writes as the sink needs.
+pub fn write_all<K: Sink>(sink: &mut K, bytes: &[u8]) -> Result<(), WriteStop>
+    ensures meets { WriteAll (K.holds sink.old) (K.holds sink.new) (K.faults sink.old) (K.faults sink.new) bytes.now result }
+    ensures count { K.faults sink.old ≤ K.faults sink.new }
+{
+    let mut written = 0;
+    while written < bytes.len() {
+        written += sink.write(&bytes[written..])?;
+    }
+    Ok(())
+}
