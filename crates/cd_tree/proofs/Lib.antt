@@ -1,0 +1,23 @@
+mod WorkedForms
+mod Worked
+pub mod Potential
+pub mod RepeatsParts
+pub mod RepeatsReading
+pub mod Numbers
+pub mod CountsParts
+pub mod CountsReading
+mod WorkedGroups
+mod WorkedHalts
+mod WorkedWords
+mod WorkedGrid
+mod WorkedTree
+pub mod View
+pub mod Leaks
+pub mod DetectedSets
+pub mod Detected
+pub mod PathParents
+pub mod PathTexts
+pub mod PathEnds
+pub mod PathOnly
+pub mod Reach
+mod WorkedLegal

@@ -1,0 +1,190 @@
+-- A worked case of what a program and an accepted script are: a root with a group of two members.
+use Rattle.std.proofs.Common.{◌≡◌, ◌≢◌, false, ℕ, zero, suc, List, [], ◌∷◌, Option, None, Some, IsTrue, All, slice_get, get_or, refl, ap, sym, ◌∙◌, arith}
+use Rattle.std.specs.Option.{option_map_or}
+use Rattle.std.specs.List.{Contains}
+use Rattle.std.proofs.lemmas.List.Elements.{All-nil, All-cons}
+use Rattle.cd_base.specs.declared.place.Range.{Range}
+use Rattle.cd_tree.specs.declared.domain.Item.TheVariants.{Run, Group}
+use Rattle.cd_tree.specs.declared.domain.Entry.{Entry}
+use Rattle.cd_tree.specs.declared.domain.Domain.{Domain}
+use Rattle.cd_tree.specs.declared.document.Fault.{Fault}
+use Rattle.cd_tree.specs.declared.kinds.KindName.{KindName}
+use Rattle.cd_tree.specs.declared.operation.Op.TheVariants.{Fill}
+use Rattle.cd_tree.specs.KindSets.{has_kind}
+use Rattle.cd_tree.specs.Operations.{IsFull}
+use Rattle.cd_tree.specs.Outlines.{Outline, IsTree, FitsDomain, SiblingsDiffer, KindsDiffer}
+use Rattle.cd_tree.specs.Scripts.{CanStrike, IsAccepted, DetectableMembers}
+use Rattle.cd_tree.specs.Domains.{members_by, node_of}
+use Rattle.cd_tree.specs.Paths.{path_text_of}
+use Rattle.cd_tree.proofs.WorkedForms.{number, part, copied, strike}
+
+abbrev y : Range
+y = part 0 0 4
+
+abbrev z : Range
+z = part 1 0 4
+
+-- named r, b and c; b and c find flip (kind 0), r finds node (kind 1)
+abbrev first : Domain
+first =
+    record { name = 114 ∷ []; parent = None; retry = 2; detects = 2; entries = copied y ∷ copied z ∷ []; items = Group (number 1 ∷ number 2 ∷ []) ∷ [] }
+
+abbrev left : Domain
+left = record { name = 98 ∷ []; parent = Some (number 0); retry = 1; detects = 1; entries = copied y ∷ []; items = Run (Fill y 7) ∷ [] }
+
+abbrev right : Domain
+right = record { name = 99 ∷ []; parent = Some (number 0); retry = 1; detects = 1; entries = copied z ∷ []; items = Run (Fill z 9) ∷ [] }
+
+abbrev kinds : List KindName
+kinds = record { name = 102 ∷ []; halts = false } ∷ record { name = 110 ∷ []; halts = false } ∷ []
+
+abbrev pair : Outline
+pair = record { kinds = kinds; domains = first ∷ left ∷ right ∷ [] }
+
+-- the path of the second member is r/c
+path_of_right : path_text_of pair.domains (number 2) ≡ 114 ∷ 47 ∷ 99 ∷ []
+path_of_right = refl
+
+one_letter : (letter : ℕ) → letter ≢ 47 → Contains (letter ∷ []) 47 → ⊥
+one_letter letter other (zero, below, is) = other is
+one_letter letter other (suc k, below, is) = absurd (omega arith)
+
+full_y : IsFull y
+full_y = omega arith
+
+full_z : IsFull z
+full_z = omega arith
+
+abbrev FullEntry : Entry → Type 0
+FullEntry entry = IsFull entry.range
+
+first_fits : FitsDomain kinds pair.domains 0 first
+first_fits =
+    record {
+      name = one_letter 114 (omega arith);
+      tries = omega arith;
+      retry = omega arith;
+      detects = omega arith;
+      entries = omega arith;
+      ranges = All-cons FullEntry (copied y) (copied z ∷ []) full_y (All-cons FullEntry (copied z) [] full_z (All-nil FullEntry));
+      items = (omega arith, omega arith, (omega arith, refl, (omega arith, refl, tt)), tt);
+    }
+
+left_fits : FitsDomain kinds pair.domains 1 left
+left_fits =
+    record {
+      name = one_letter 98 (omega arith);
+      tries = omega arith;
+      retry = omega arith;
+      detects = omega arith;
+      entries = omega arith;
+      ranges = All-cons FullEntry (copied y) [] full_y (All-nil FullEntry);
+      items = (All-cons IsFull y [] full_y (All-nil IsFull), tt, tt);
+    }
+
+right_fits : FitsDomain kinds pair.domains 2 right
+right_fits =
+    record {
+      name = one_letter 99 (omega arith);
+      tries = omega arith;
+      retry = omega arith;
+      detects = omega arith;
+      entries = omega arith;
+      ranges = All-cons FullEntry (copied z) [] full_z (All-nil FullEntry);
+      items = (All-cons IsFull z [] full_z (All-nil IsFull), tt, tt);
+    }
+
+-- the first letter of a domain's name
+abbrev letter : Option Domain → ℕ
+letter found = option_map_or (λ (domain : Domain). get_or domain.name 0 0) found 0
+
+letters_differ : (found there : Option Domain) (one other : Domain) → found ≡ Some one → there ≡ Some other
+    → letter found ≢ letter there → one.name ≢ other.name
+letters_differ found there one other p q differ names =
+    differ (ap letter p ∙ ap (λ (name : List ℕ). get_or name 0 0) names ∙ sym (ap letter q))
+
+abbrev kind_letter : Option KindName → ℕ
+kind_letter found = option_map_or (λ (kind : KindName). get_or kind.name 0 0) found 0
+
+kind_letters_differ : (found there : Option KindName) (one other : KindName) → found ≡ Some one → there ≡ Some other
+    → kind_letter found ≢ kind_letter there → one.name ≢ other.name
+kind_letters_differ found there one other p q differ names =
+    differ (ap kind_letter p ∙ ap (λ (name : List ℕ). get_or name 0 0) names ∙ sym (ap kind_letter q))
+
+siblings : SiblingsDiffer pair.domains
+siblings zero zero one other p q parents names = refl
+siblings zero (suc zero) one other p q parents names = absurd (cc)
+siblings zero (suc (suc zero)) one other p q parents names = absurd (cc)
+siblings zero (suc (suc (suc j))) one other p q parents names = absurd (cc)
+siblings (suc zero) zero one other p q parents names = absurd (cc)
+siblings (suc zero) (suc zero) one other p q parents names = refl
+siblings (suc zero) (suc (suc zero)) one other p q parents names =
+    absurd (letters_differ (Some left) (Some right) one other p q (omega arith) names)
+siblings (suc zero) (suc (suc (suc j))) one other p q parents names = absurd (cc)
+siblings (suc (suc zero)) zero one other p q parents names = absurd (cc)
+siblings (suc (suc zero)) (suc zero) one other p q parents names =
+    absurd (letters_differ (Some right) (Some left) one other p q (omega arith) names)
+siblings (suc (suc zero)) (suc (suc zero)) one other p q parents names = refl
+siblings (suc (suc zero)) (suc (suc (suc j))) one other p q parents names = absurd (cc)
+siblings (suc (suc (suc i))) j one other p q parents names = absurd (cc)
+
+kinds_differ : KindsDiffer kinds
+kinds_differ zero zero one other p q names = refl
+kinds_differ zero (suc zero) one other p q names =
+    absurd (kind_letters_differ (slice_get kinds 0) (slice_get kinds 1) one other p q (omega arith) names)
+kinds_differ zero (suc (suc j)) one other p q names = absurd (cc)
+kinds_differ (suc zero) zero one other p q names =
+    absurd (kind_letters_differ (slice_get kinds 1) (slice_get kinds 0) one other p q (omega arith) names)
+kinds_differ (suc zero) (suc zero) one other p q names = refl
+kinds_differ (suc zero) (suc (suc j)) one other p q names = absurd (cc)
+kinds_differ (suc (suc i)) j one other p q names = absurd (cc)
+
+-- it is a program
+pair_is_tree : IsTree pair
+pair_is_tree =
+    record {
+      some = omega arith;
+      root = refl;
+      preorder = refl;
+      each = (first_fits, (left_fits, (right_fits, tt)));
+      siblings = siblings;
+      kinds = kinds_differ;
+      few_kinds = omega arith;
+      few = omega arith;
+      depth = omega arith;
+      items = omega arith;
+      preserves = omega arith;
+    }
+
+-- a flip in the first member, and a node in the second, which its parent declares
+abbrev flip : Fault
+flip = strike 1 1 1 0 2 1
+
+abbrev node : Fault
+node = record { node = number 2; begin = 1; item = 0; kind = record { 0 = 1 }; place = record { region = 1; index = 3 }; mask = 1 }
+
+abbrev faults : List Fault
+faults = flip ∷ node ∷ []
+
+-- the kinds of both faults are in a declared set, where they are of a domain
+found_at : (id declared : ℕ) → (1 ≡ id → IsTrue (has_kind declared (record { 0 = 0 }))) → (2 ≡ id → IsTrue (has_kind declared (record { 0 = 1 })))
+    → All (λ (fault : Fault). fault.node.0 ≡ id → IsTrue (has_kind declared fault.kind)) faults
+found_at id declared p q =
+    let P : Fault → Type 0 = λ fault. fault.node.0 ≡ id → IsTrue (has_kind declared fault.kind) in
+    All-cons P flip (node ∷ []) p (All-cons P node [] q (All-nil P))
+
+members_found : DetectableMembers faults 2 (members_by (node_of pair.domains) (number 1 ∷ number 2 ∷ []))
+members_found = (
+  (found_at 1 3 (λ one. refl) (λ two. absurd (omega arith)), tt),
+  ((found_at 2 3 (λ one. absurd (omega arith)) (λ two. refl), tt), tt),
+)
+
+-- the script is accepted for it
+pair_accepts : IsAccepted pair faults
+pair_accepts =
+    record {
+      strikes =
+          All-cons (CanStrike pair) flip (node ∷ []) (omega arith, refl)
+          (All-cons (CanStrike pair) node [] (omega arith, refl) (All-nil (CanStrike pair)));
+      found = (found_at 0 2 (λ one. absurd (omega arith)) (λ two. absurd (omega arith)), (members_found, tt));
+    }

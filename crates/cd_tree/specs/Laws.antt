@@ -1,0 +1,73 @@
+-- The laws: what holds of the definitions for every program and every script. Each is a contract of `laws`.
+use Rattle.std.specs.Prelude.{ℕ, ◌+◌, ◌≤◌, List, length, ◌≡◌, ◌⊎◌, bit_and, Some, slice_get, true, IsSome}
+use Rattle.cd_base.specs.declared.place.Place.{Place}
+use Rattle.cd_base.specs.Words.{Words}
+use Rattle.cd_tree.specs.Meaning.{in_entries, node_reach, node_meaning, IsCovered}
+use Rattle.cd_tree.specs.Domains.{domain_of, Node, node, body_by, node_of}
+use Rattle.cd_tree.specs.KindSets.{no_kinds}
+use Rattle.cd_tree.specs.Outlines.{Outline, IsTree}
+use Rattle.cd_tree.specs.Paths.{path_text_of}
+use Rattle.cd_tree.specs.Reading.{Case, Counts, Blame, NodeEnd, Done, Escalated, read_node}
+use Rattle.cd_tree.specs.Record.{reading}
+use Rattle.cd_tree.specs.Scripts.{IsDetectable, IsAccepted}
+use Rattle.cd_tree.specs.declared.document.Fault.{Fault}
+use Rattle.cd_tree.specs.declared.domain.Domain.{Domain}
+use Rattle.cd_tree.specs.declared.domain.NodeId.{NodeId}
+
+-- no more tries are repeated than faults strike
+abbrev pub RepeatsAreAtMostStrikes : Type 0
+RepeatsAreAtMostStrikes =
+    (w : Case) (d : Node) (counts : Counts) → (read_node w d counts).past.repeats ≤ (read_node w d counts).past.strikes
+
+-- each entry of a script strikes at most once: no more faults strike than the script has entries
+abbrev pub StrikesAreAtMostEntries : Type 0
+StrikesAreAtMostEntries = (w : Case) (d : Node) (counts : Counts) → (read_node w d counts).past.strikes ≤ length w.faults
+
+-- no more tries of a whole program are repeated than its script has entries
+abbrev pub RepeatsAreAtMostEntries : Type 0
+RepeatsAreAtMostEntries = (tree : Outline) (faults : List Fault) → (reading tree faults).past.repeats ≤ length faults
+
+-- no domain of a program begins more often than once and once more for each entry of the script
+abbrev pub CountsAreAtMostOneMoreThanEntries : Type 0
+CountsAreAtMostOneMoreThanEntries =
+    (tree : Outline) (faults : List Fault) (n : ℕ) → IsTree tree → (reading tree faults).counts n ≤ 1 + length faults
+
+-- the nested view of each domain of a program has the body that its own items describe by the nested views
+abbrev pub NestedViewFollows : Type 0
+NestedViewFollows =
+    (tree : Outline) → IsTree tree → (id : NodeId) (domain : Domain) → slice_get tree.domains id.0 ≡ Some domain
+    → node_of tree.domains id ≡ Some (node id domain (body_by (node_of tree.domains) domain.items))
+
+-- no kind that a domain leaks is a halting kind
+abbrev pub NoLeakHalts : Type 0
+NoLeakHalts =
+    (w : Case) (d : Node) (counts : Counts) (leak : ℕ) → (read_node w d counts).answer ≡ Done leak
+    → bit_and leak w.halts ≡ no_kinds
+
+-- completed without a leak, or escalated with nothing left to be declared
+abbrev pub EndsClean : NodeEnd → Type 0
+EndsClean end = (end ≡ Done no_kinds) ⊎ ((cause : Blame) × (end ≡ Escalated cause no_kinds))
+
+-- where each fault's kind is declared by its domain or by one above it, a root leaks nothing and leaves nothing over
+abbrev pub FoundAtRoots : Type 0
+FoundAtRoots =
+    (w : Case) (d : Node) (counts : Counts) → IsDetectable w.faults no_kinds d → EndsClean (read_node w d counts).answer
+
+-- a program under a script that is accepted for it leaks nothing and leaves nothing over
+abbrev pub FoundInPrograms : Type 0
+FoundInPrograms = (tree : Outline) (faults : List Fault) → IsAccepted tree faults → EndsClean (reading tree faults).answer
+
+-- two domains of a program with the same path are one
+abbrev pub PathsDiffer : Type 0
+PathsDiffer =
+    (tree : Outline) → IsTree tree → (id other : NodeId) (one two : Domain)
+    → slice_get tree.domains id.0 ≡ Some one → slice_get tree.domains other.0 ≡ Some two
+    → path_text_of tree.domains id ≡ path_text_of tree.domains other → id ≡ other
+
+-- a covered domain reaches places of its entries alone
+abbrev pub CoveredReach : Type 0
+CoveredReach = (d : Node) (p : Place) → IsCovered d → node_reach d p ≡ true → in_entries (domain_of d).entries p ≡ true
+
+-- a place that has a word has one after a program in which nothing fails
+abbrev pub WordsStay : Type 0
+WordsStay = (d : Node) (w : Words) (p : Place) → IsSome (w p) → IsSome (node_meaning d w p)

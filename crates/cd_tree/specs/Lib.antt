@@ -1,0 +1,11 @@
+pub mod KindSets
+pub mod Operations
+pub mod Domains
+pub mod Outlines
+pub mod Meaning
+pub mod Scripts
+pub mod Reading
+pub mod Record
+pub mod Legal
+pub mod Paths
+pub mod Laws

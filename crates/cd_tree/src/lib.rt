@@ -1,0 +1,22 @@
+//! Programs as trees of containment domains, fault scripts, events and refusals; and, in `specs/`, the meaning of all of
+//! them: what operations and domains compute, what the one-thread reading of a program and its script gives.
+#![tactic(auto)]
+
+mod document;
+mod domain;
+mod event;
+mod kinds;
+pub mod laws;
+mod operation;
+mod path;
+mod refusal;
+mod tree;
+
+pub use document::{Document, Fault, RawFault, RawScript, Region, Regions, Script};
+pub use domain::{Domain, Entry, How, Item, NodeId};
+pub use event::{Begins, Cause, Event, Kept};
+pub use kinds::{Kind, KindName, Kinds};
+pub use operation::{Op, reads, writes};
+pub use path::{find, path_text};
+pub use refusal::{Refusal, Refuse, Which};
+pub use tree::Tree;

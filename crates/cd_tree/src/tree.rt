@@ -1,0 +1,58 @@
+ghost use Rattle.std.specs.Prelude.{◌≡◌, ◌<◌, ◌^◌, length, slice_get, Some};
+
+use crate::{Domain, KindName, NodeId};
+use cd_base::Items;
+use std::marker::Model;
+
+/// A program: the kinds of faults that it knows, and its domains in preorder, parents before their children.
+#[derive(Drop)]
+pub struct Tree {
+    kinds: Items<KindName>,
+    domains: Items<Domain>,
+}
+
+impl Model for Tree {
+    ghost use Rattle.cd_tree.specs.Outlines.{Outline, IsTree};
+
+    ghost Value = { Outline };
+
+    ghost view = { λ tree. record { kinds = tree.kinds; domains = tree.domains } };
+
+    ghost invariant = { λ tree. IsTree (record { kinds = tree.kinds; domains = tree.domains }) };
+}
+
+impl Tree {
+    ghost use Rattle.cd_tree.specs.Outlines.{IsTree};
+
+    /// The tree of a list of domains. It takes no memory.
+    pub fn of(kinds: Items<KindName>, domains: Items<Domain>) -> Tree
+        requires { IsTree (record { kinds = kinds; domains = domains }) }
+        ensures kinds { result.kinds ≡ kinds }
+        ensures domains { result.domains ≡ domains }
+    {
+        Tree { kinds, domains }
+    }
+
+    /// The names of the kinds, in the order of declaration. It takes no memory.
+    pub fn kinds(&self) -> &[KindName]
+        ensures { result.now ≡ self.now.kinds }
+    {
+        self.kinds.items()
+    }
+
+    /// The number of domains, which is at least 1. It takes no memory.
+    pub fn count(&self) -> u32
+        ensures value { result ≡ length self.now.domains }
+        ensures sound { IsTree self.now }
+    {
+        self.domains.items().len() as u32
+    }
+
+    /// A domain by its number. It takes no memory.
+    pub fn node(&self, id: NodeId) -> &Domain
+        requires { id.0 < length self.now.domains }
+        ensures { slice_get self.now.domains id.0 ≡ Some result.now }
+    {
+        &self.domains.items()[id.0 as usize]
+    }
+}
