@@ -1,0 +1,10 @@
+pub mod Places
+pub mod Columns
+pub mod Sums
+pub mod Copying
+pub mod Points
+pub mod Frames
+pub mod Restoring
+pub mod Following
+pub mod Tries
+pub mod Ends

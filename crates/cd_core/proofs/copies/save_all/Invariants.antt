@@ -1,0 +1,14 @@
+use Rattle.std.proofs.Common.{◌≡◌, ◌≤◌, ◌++◌, drop, length}
+use Rattle.cd_tree.specs.Reading.{saved_from}
+use Rattle.cd_core.specs.Copies.{copies_of, told_all}
+use Rattle.cd_core.proofs.copies.save_all.Given as goal
+
+abbrev pub invariant-loop-number : goal.invariant-loop-number
+invariant-loop-number g l = record {
+  within : l.number ≤ length l.entries;
+  whole : l.copies.items ++ copies_of (g.F.Field.state l.fn.field).words (drop l.number l.entries)
+      ≡ copies_of (g.F.Field.state l.fn.field).words l.entries;
+  same : g.F.Field.state l.field ≡ record (g.F.Field.state l.fn.field) { events = (g.F.Field.state l.field).events };
+  left : told_all (g.F.Field.state l.field) (saved_from (g.F.Field.state l.fn.field).node l.number (drop l.number l.entries))
+      ≡ told_all (g.F.Field.state l.fn.field) (saved_from (g.F.Field.state l.fn.field).node 0 l.entries);
+}
