@@ -1,0 +1,99 @@
+-- Worked cases on which the definitions compute: each is proved by computing both sides.
+use Rattle.std.proofs.Common.{◌≡◌, ℕ, ◌-◌, ◌^◌, false, List, [], ◌∷◌, Option, None, Some, refl, codes}
+use Rattle.std.specs.Fmt.{digits}
+use Rattle.cd_base.specs.declared.pattern.Pattern.TheVariants.{Const}
+use Rattle.cd_base.specs.Words.{Words}
+use Rattle.cd_tree.specs.declared.domain.NodeId.{NodeId}
+use Rattle.cd_tree.specs.declared.domain.Domain.{Domain}
+use Rattle.cd_tree.specs.declared.document.Region.{Region}
+use Rattle.cd_tree.specs.declared.document.Document.{Document}
+use Rattle.cd_tree.specs.declared.kinds.KindName.{KindName}
+use Rattle.cd_tree.specs.declared.refusal.Refusal.TheVariants.{Overlap, Uncovered, NoTarget, Stale}
+use Rattle.cd_tree.specs.Outlines.{Outline}
+use Rattle.cd_report.specs.Texts.{report_text, region_line, kinds_text, refusal_line}
+
+abbrev id : ℕ → NodeId
+id n = record { 0 = n }
+
+abbrev kind : List ℕ → KindName
+kind name = record { name = name; halts = false }
+
+-- the kinds of the first version of the language
+abbrev kinds : List KindName
+kinds = kind (codes "flip") ∷ kind (codes "lost") ∷ kind (codes "link") ∷ kind (codes "node") ∷ []
+
+abbrev domain : List ℕ → Option NodeId → Domain
+domain name parent = record { name = name; parent = parent; retry = 1; detects = 0; entries = []; items = [] }
+
+abbrev region : List ℕ → ℕ → Region
+region name length = record { name = name; length = length; pattern = Const 0 }
+
+-- one domain
+abbrev single : Outline
+single = record { kinds = kinds; domains = domain (codes "root") None ∷ [] }
+
+-- a domain, a child of it, and a child of the child
+abbrev nested : Outline
+nested =
+    record { kinds = kinds; domains = domain (codes "root") None ∷ domain (codes "b") (Some (id 0)) ∷ domain (codes "c") (Some (id 1)) ∷ [] }
+
+abbrev filled : ℕ → Words
+filled word = λ p. Some word
+
+-- a run that commits
+committed : report_text single (region (codes "y") 4 ∷ []) (filled 7) (1 ∷ []) None
+    ≡ codes "committed\nregion y 7 7 7 7\nbegins root 1\ntotal 1\n"
+unfolding digits
+committed = refl
+
+-- a run that is exhausted by one kind of fault
+exhausted : report_text single (region (codes "y") 4 ∷ []) (filled 0) (2 ∷ []) (Some (record { path = id 0 ∷ []; kinds = 1 }))
+    ≡ codes "exhausted root flip\nregion y 0 0 0 0\nbegins root 2\ntotal 2\n"
+unfolding digits
+exhausted = refl
+
+-- the cause is told by its last domain, and no kind may be found there
+below_the_root : report_text nested (region (codes "y") 1 ∷ region (codes "z") 2 ∷ []) (λ p. Some p.region) (2 ∷ 3 ∷ 10 ∷ [])
+    (Some (record { path = id 0 ∷ id 1 ∷ id 2 ∷ []; kinds = 0 }))
+    ≡ codes "exhausted root/b/c none\nregion y 0\nregion z 1 1\nbegins root 2\nbegins root/b 3\nbegins root/b/c 10\ntotal 15\n"
+unfolding digits
+below_the_root = refl
+
+some_kinds : kinds_text kinds 13 ≡ codes "flip,link,node"
+some_kinds = refl
+
+-- up to sixteen words are listed
+listed_words : region_line (λ p. Some p.index) 0 (region (codes "y") 16) ≡ codes "region y 0 1 2 3 4 5 6 7 8 9 10 11 12 13 14 15\n"
+unfolding digits
+listed_words = refl
+
+-- more words are summed
+summed_words : region_line (filled 7) 0 (region (codes "y") 65) ≡ codes "region y length 65 sum 455 weighted 15015\n"
+unfolding digits
+summed_words = refl
+
+-- sums are taken modulo 2^64
+wrapped_sums : region_line (filled (2 ^ 64 - 1)) 0 (region (codes "y") 17)
+    ≡ codes "region y length 17 sum 18446744073709551599 weighted 18446744073709551463\n"
+unfolding digits
+wrapped_sums = refl
+
+abbrev document : Option Document
+document = Some (record { version = 1; regions = region (codes "y") 1 ∷ region (codes "z") 9 ∷ []; tree = nested; faults = [] })
+
+-- two domains and a place
+overlap : refusal_line document (Overlap (id 1) (id 2) (record { region = 1; index = 3 })) ≡ codes "refused E9 root/b root/b/c z[3]\n"
+unfolding digits
+overlap = refl
+
+uncovered : refusal_line document (Uncovered (id 2) (record { region = 0; index = 0 })) ≡ codes "refused E10 root/b/c y[0]\n"
+unfolding digits
+uncovered = refl
+
+no_target : refusal_line document (NoTarget (id 0) 12) ≡ codes "refused E11 root entry 12\n"
+unfolding digits
+no_target = refl
+
+stale : refusal_line document (Stale (id 1) 0 (record { region = 1; index = 8 })) ≡ codes "refused E12 root/b entry 0 z[8]\n"
+unfolding digits
+stale = refl

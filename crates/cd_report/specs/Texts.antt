@@ -1,0 +1,193 @@
+-- The texts that a program writes, as lists of bytes: the report of a run, refusals, and two lines of their own.
+use Rattle.std.specs.Prelude.{◌≡◌, ℕ, ◌+◌, ◌*◌, ◌<◌, nat_le, List, [], ◌∷◌, ◌++◌, Option, None, Some, length, map, sum, slice_get, All, if◌then◌else◌, codes, decimal}
+use Rattle.std.specs.List.{join_by, flat_map, range_with_len, last_or}
+use Rattle.std.specs.Option.{option_map_or}
+use Rattle.cd_base.specs.declared.place.Place.{Place}
+use Rattle.cd_base.specs.Words.{Words, word_at, word_of}
+use Rattle.cd_tree.specs.declared.domain.NodeId.{NodeId}
+use Rattle.cd_tree.specs.declared.domain.Domain.{Domain}
+use Rattle.cd_tree.specs.declared.document.Region.{Region}
+use Rattle.cd_tree.specs.declared.document.Document.{Document}
+use Rattle.cd_tree.specs.declared.event.Cause.{Cause}
+use Rattle.cd_tree.specs.declared.kinds.KindName.{KindName}
+use Rattle.cd_tree.specs.declared.refusal.Which.{Which}
+use Rattle.cd_tree.specs.declared.refusal.Which.TheVariants as which
+use Rattle.cd_tree.specs.declared.refusal.Refusal.{Refusal}
+use Rattle.cd_tree.specs.declared.refusal.Refusal.TheVariants.{TooLong, Line, UnknownRegion, OutsideRegion, NameTaken, Shape, Arithmetic, Limit, Overlap, Uncovered, NoTarget, Stale, UnknownPath, NoSuchItem, OutsideReach, Undetected}
+use Rattle.cd_tree.specs.KindSets.{has_kind}
+use Rattle.cd_tree.specs.Outlines.{Outline}
+use Rattle.cd_tree.specs.Paths.{path_text_of}
+use Rattle.cd_field.specs.Machine.{Machine, IsPresent}
+
+-- a text with a line feed behind it
+abbrev pub line : List ℕ → List ℕ
+line text = text ++ 10 ∷ []
+
+-- the kinds that are in a set, of a list of kinds whose first is the kind `at`
+abbrev pub kinds_in : ℕ → ℕ → List KindName → List KindName
+kinds_in set at [] = []
+kinds_in set at (kind ∷ kinds) =
+    if has_kind set (record { 0 = at }) then kind ∷ kinds_in set (at + 1) kinds else kinds_in set (at + 1) kinds
+
+-- the names of some kinds, joined by commas, or `none` where there are none
+abbrev pub names_text : List KindName → List ℕ
+names_text [] = codes "none"
+names_text (kind ∷ kinds) = join_by (λ k. k.name) (codes ",") (kind ∷ kinds)
+
+-- the text of a set of a document's kinds, in the order of declaration
+abbrev pub kinds_text : List KindName → ℕ → List ℕ
+kinds_text kinds set = names_text (kinds_in set 0 kinds)
+
+-- the path of the last domain of a cause's path
+abbrev pub end_text : List Domain → Option NodeId → List ℕ
+end_text domains None = []
+end_text domains (Some id) = path_text_of domains id
+
+-- whether the run committed, or where and by which kinds it was exhausted
+abbrev pub outcome_line : Outline → Option Cause → List ℕ
+outcome_line tree None = line (codes "committed")
+outcome_line tree (Some cause) =
+    line (codes "exhausted " ++ end_text tree.domains (last_or None cause.path) ++ codes " " ++ kinds_text tree.kinds cause.kinds)
+
+-- n words of a region, from an index on
+abbrev pub words_from : Words → ℕ → ℕ → ℕ → List ℕ
+words_from words region from n = map (λ i. word_at words (record { region = region; index = i })) (range_with_len from n)
+
+-- each word with a space before it
+abbrev pub listed : List ℕ → List ℕ
+listed words = flat_map (λ word. codes " " ++ decimal word) words
+
+-- the sum of the words, each times its place, where the first has the place `from`
+abbrev pub weighted : ℕ → List ℕ → ℕ
+weighted from [] = 0
+weighted from (word ∷ words) = from * word + weighted (from + 1) words
+
+-- how many words there are, and their plain and their weighted sum, both modulo 2^64
+abbrev pub summed : ℕ → List ℕ → List ℕ
+summed count words =
+    codes " length " ++ decimal count ++ codes " sum " ++ decimal (word_of (sum words)) ++ codes " weighted "
+    ++ decimal (word_of (weighted 1 words))
+
+-- the words of a region, `count` in number, or what stands for them where they are more than sixteen
+abbrev pub words_text : ℕ → List ℕ → List ℕ
+words_text count words = if nat_le count 16 then listed words else summed count words
+
+abbrev pub region_line : Words → ℕ → Region → List ℕ
+region_line words number region =
+    line (codes "region " ++ region.name ++ words_text region.length (words_from words number 0 region.length))
+
+-- the lines of regions, of which the first has the number `at`
+abbrev pub region_lines : Words → ℕ → List Region → List ℕ
+region_lines words at [] = []
+region_lines words at (region ∷ regions) = region_line words at region ++ region_lines words (at + 1) regions
+
+abbrev pub begins_line : List Domain → ℕ → ℕ → List ℕ
+begins_line domains at count = line (codes "begins " ++ path_text_of domains (record { 0 = at }) ++ codes " " ++ decimal count)
+
+-- the lines of begin counts, of which the first is that of the domain `at`
+abbrev pub begins_lines : List Domain → ℕ → List ℕ → List ℕ
+begins_lines domains at [] = []
+begins_lines domains at (count ∷ counts) = begins_line domains at count ++ begins_lines domains (at + 1) counts
+
+abbrev pub total_line : List ℕ → List ℕ
+total_line begins = line (codes "total " ++ decimal (sum begins))
+
+-- the report of a run, without its record
+abbrev pub report_text : Outline → List Region → Words → List ℕ → Option Cause → List ℕ
+report_text tree regions words begins cause =
+    outcome_line tree cause ++ region_lines words 0 regions ++ begins_lines tree.domains 0 begins ++ total_line begins
+
+-- each place of each region is present in the machine
+abbrev pub AllPresent : Machine → List Region → Type 0
+AllPresent m regions =
+    (k i : ℕ) (region : Region) → slice_get regions k ≡ Some region → i < region.length
+    → IsPresent m (record { region = k; index = i })
+
+-- each of these domains is one of a number of domains
+abbrev pub AreWithin : ℕ → List NodeId → Type 0
+AreWithin count ids = All (λ (id : NodeId). id.0 < count) ids
+
+-- a cause that names domains of this program, at least one
+abbrev pub FitsCause : Outline → Option Cause → Type 0
+FitsCause tree None = Unit {0}
+FitsCause tree (Some cause) = (0 < length cause.path) × AreWithin (length tree.domains) cause.path
+
+-- the name of a limit
+abbrev pub which_text : Which → List ℕ
+which_text which.Lines = codes "lines"
+which_text which.Nesting = codes "nesting"
+which_text which.Name = codes "name"
+which_text which.Kinds = codes "kinds"
+which_text which.Regions = codes "regions"
+which_text which.Words = codes "words"
+which_text which.Domains = codes "domains"
+which_text which.Depth = codes "depth"
+which_text which.Items = codes "items"
+which_text which.Entries = codes "entries"
+which_text which.Preserves = codes "preserves"
+which_text which.Members = codes "members"
+which_text which.Retry = codes "retry"
+which_text which.Faults = codes "faults"
+which_text which.Need = codes "need"
+
+-- the path of a domain of a document, where there is one
+abbrev pub path_in : Option Document → NodeId → List ℕ
+path_in None id = []
+path_in (Some document) id = path_text_of document.tree.domains id
+
+-- a place by its region's name in a document, where there is one, and its index
+abbrev pub place_in : Option Document → Place → List ℕ
+place_in None p = []
+place_in (Some document) p =
+    option_map_or (λ region. region.name) (slice_get document.regions p.region) [] ++ codes "[" ++ decimal p.index ++ codes "]"
+
+-- what a refusal says; only where it names domains or places, of the document
+abbrev pub refusal_text : Option Document → Refusal → List ℕ
+refusal_text document TooLong = codes "E1 longer than 1048576 bytes"
+refusal_text document (Line n) = codes "E2 line " ++ decimal n
+refusal_text document (UnknownRegion n) = codes "E3 line " ++ decimal n
+refusal_text document (OutsideRegion n) = codes "E4 line " ++ decimal n
+refusal_text document (NameTaken n) = codes "E5 line " ++ decimal n
+refusal_text document (Shape n) = codes "E6 line " ++ decimal n
+refusal_text document (Arithmetic n) = codes "E7 line " ++ decimal n
+refusal_text document (Limit limit count) = codes "E8 " ++ which_text limit ++ codes " " ++ decimal count
+refusal_text document (Overlap one other p) =
+    codes "E9 " ++ path_in document one ++ codes " " ++ path_in document other ++ codes " " ++ place_in document p
+refusal_text document (Uncovered id p) = codes "E10 " ++ path_in document id ++ codes " " ++ place_in document p
+refusal_text document (NoTarget id k) = codes "E11 " ++ path_in document id ++ codes " entry " ++ decimal k
+refusal_text document (Stale id k p) =
+    codes "E12 " ++ path_in document id ++ codes " entry " ++ decimal k ++ codes " " ++ place_in document p
+refusal_text document (UnknownPath k) = codes "E13 fault " ++ decimal k
+refusal_text document (NoSuchItem k) = codes "E14 fault " ++ decimal k
+refusal_text document (OutsideReach k) = codes "E15 fault " ++ decimal k
+refusal_text document (Undetected k) = codes "E16 fault " ++ decimal k
+
+-- the line of a refusal
+abbrev pub refusal_line : Option Document → Refusal → List ℕ
+refusal_line document refusal = line (codes "refused " ++ refusal_text document refusal)
+
+-- a document is there, and has this domain
+abbrev pub HasDomain : Option Document → NodeId → Type 0
+HasDomain None id = ⊥
+HasDomain (Some document) id = id.0 < length document.tree.domains
+
+-- a document is there, and has a region with this number
+abbrev pub HasRegion : Option Document → ℕ → Type 0
+HasRegion None number = ⊥
+HasRegion (Some document) number = number < length document.regions
+
+-- the domains and the region that a refusal names are those of the document; where it names any, the document is there
+abbrev pub CanBeNamed : Option Document → Refusal → Type 0
+CanBeNamed document (Overlap one other p) = HasDomain document one × HasDomain document other × HasRegion document p.region
+CanBeNamed document (Uncovered id p) = HasDomain document id × HasRegion document p.region
+CanBeNamed document (NoTarget id k) = HasDomain document id
+CanBeNamed document (Stale id k p) = HasDomain document id × HasRegion document p.region
+CanBeNamed document _ = Unit {0}
+
+-- the line for a command line that gives no command
+abbrev pub usage_line : List ℕ
+usage_line = line (codes "usage: cd check|read|run|make|lift [--workers N] [--record] [--size N]")
+
+-- the line where the source could not be read
+abbrev pub fault_line : List ℕ
+fault_line = line (codes "read fault")

@@ -1,0 +1,135 @@
+ghost use Rattle.std.specs.Prelude.{◌≡◌, ◌≤◌, IfOk, string_bytes};
+ghost use Rattle.std.specs.Option.{option_copied};
+ghost use Rattle.cd_base.specs.Ends.{WriteAll};
+ghost use Rattle.cd_report.specs.Texts.{refusal_text, refusal_line, path_in, place_in, which_text, CanBeNamed, HasDomain, HasRegion};
+
+use crate::outcome::add_path;
+use cd_base::{Place, Sink, WriteStop, write_all};
+use cd_tree::{Document, NodeId, Refusal, Which};
+use std::alloc::{AllocError, Global};
+
+/// Writes the line of a refusal. One that names domains or places names those of the document.
+pub fn write_refusal<K: Sink>(
+    alloc: Global,
+    document: Option<&Document>,
+    refusal: &Refusal,
+    sink: &mut K,
+) -> Result<(), WriteStop>
+    requires named { CanBeNamed (option_copied document) refusal.now }
+    ensures meets { WriteAll (K.holds sink.old) (K.holds sink.new) (K.faults sink.old) (K.faults sink.new) (refusal_line (option_copied document.entry) refusal.now) result }
+    ensures count { K.faults sink.old ≤ K.faults sink.new }
+{
+    match refusal_line(alloc, document, refusal) {
+        Ok(line) => write_all(sink, line.as_bytes()),
+        Err(_) => Err(WriteStop::NoMemory),
+    }
+}
+
+/// The line of a refusal.
+fn refusal_line(
+    alloc: Global,
+    document: Option<&Document>,
+    refusal: &Refusal,
+) -> Result<String, AllocError>
+    requires { CanBeNamed (option_copied document) refusal.now }
+    ensures { IfOk result (λ text. string_bytes text ≡ refusal_line (option_copied document.entry) refusal.now) }
+{
+    format!(in alloc; "refused {}\n", refusal_text(alloc, document, refusal)?)
+}
+
+/// What a refusal says.
+fn refusal_text(
+    alloc: Global,
+    document: Option<&Document>,
+    refusal: &Refusal,
+) -> Result<String, AllocError>
+    requires { CanBeNamed (option_copied document) refusal.now }
+    ensures { IfOk result (λ text. string_bytes text ≡ refusal_text (option_copied document.entry) refusal.now) }
+{
+    match *refusal {
+        Refusal::TooLong => String::from_str(alloc, "E1 longer than 1048576 bytes"),
+        Refusal::Line(n) => format!(in alloc; "E2 line {n}"),
+        Refusal::UnknownRegion(n) => format!(in alloc; "E3 line {n}"),
+        Refusal::OutsideRegion(n) => format!(in alloc; "E4 line {n}"),
+        Refusal::NameTaken(n) => format!(in alloc; "E5 line {n}"),
+        Refusal::Shape(n) => format!(in alloc; "E6 line {n}"),
+        Refusal::Arithmetic(n) => format!(in alloc; "E7 line {n}"),
+        Refusal::Limit(which, count) => format!(in alloc; "E8 {} {count}", which_text(which)),
+        Refusal::Overlap(one, other, place) => {
+            let one = path_in(alloc, document, one)?;
+            let other = path_in(alloc, document, other)?;
+            let place = place_in(alloc, document, place)?;
+            format!(in alloc; "E9 {one} {other} {place}")
+        }
+        Refusal::Uncovered(node, place) => {
+            let path = path_in(alloc, document, node)?;
+            let place = place_in(alloc, document, place)?;
+            format!(in alloc; "E10 {path} {place}")
+        }
+        Refusal::NoTarget(node, entry) => {
+            let path = path_in(alloc, document, node)?;
+            format!(in alloc; "E11 {path} entry {entry}")
+        }
+        Refusal::Stale(node, entry, place) => {
+            let path = path_in(alloc, document, node)?;
+            let place = place_in(alloc, document, place)?;
+            format!(in alloc; "E12 {path} entry {entry} {place}")
+        }
+        Refusal::UnknownPath(k) => format!(in alloc; "E13 fault {k}"),
+        Refusal::NoSuchItem(k) => format!(in alloc; "E14 fault {k}"),
+        Refusal::OutsideReach(k) => format!(in alloc; "E15 fault {k}"),
+        Refusal::Undetected(k) => format!(in alloc; "E16 fault {k}"),
+    }
+}
+
+/// The path of a domain of a document.
+fn path_in(alloc: Global, document: Option<&Document>, node: NodeId) -> Result<String, AllocError>
+    requires { HasDomain (option_copied document) node }
+    ensures { IfOk result (λ text. string_bytes text ≡ path_in (option_copied document.entry) node) }
+{
+    match document {
+        None => unreachable!(),
+        Some(document) => {
+            let mut text = String::new(alloc);
+            add_path(alloc, &document.tree, node, &mut text)?;
+            Ok(text)
+        }
+    }
+}
+
+/// The name of a place's region in a document, and the place's index.
+fn place_in(alloc: Global, document: Option<&Document>, place: Place) -> Result<String, AllocError>
+    requires { HasRegion (option_copied document) place.region }
+    ensures { IfOk result (λ text. string_bytes text ≡ place_in (option_copied document.entry) place) }
+{
+    match document {
+        None => unreachable!(),
+        Some(document) => {
+            let region = &document.regions.items()[place.region as usize];
+            format!(in alloc; "{}[{}]", region.name.as_str(), place.index)
+        }
+    }
+}
+
+/// The name of a limit.
+fn which_text(which: Which) -> &'static str
+    ensures { result.now ≡ which_text which }
+{
+    match which {
+        Which::Lines => "lines",
+        Which::Nesting => "nesting",
+        Which::Name => "name",
+        Which::Kinds => "kinds",
+        Which::Regions => "regions",
+        Which::Words => "words",
+        Which::Domains => "domains",
+        Which::Depth => "depth",
+        Which::Items => "items",
+        Which::Entries => "entries",
+        Which::Preserves => "preserves",
+        Which::Members => "members",
+        Which::Retry => "retry",
+        Which::Faults => "faults",
+        Which::Need => "need",
+    }
+}
