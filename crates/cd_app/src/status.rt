@@ -1,0 +1,40 @@
+ghost use Rattle.std.specs.Prelude.{◌≡◌};
+ghost use Rattle.cd_app.specs.Codes.{code_of};
+
+use cd_tree::{Cause, Refusal};
+
+/// How a call of the program ends.
+#[derive(Drop)]
+pub enum Status {
+    /// The run committed, and its report was written.
+    Done,
+    /// The root used up its tries for this cause, and the report was written.
+    Exhausted(Cause),
+    /// The words give no command.
+    Usage,
+    /// The document is not accepted.
+    Refused(Refusal),
+    /// The source could not be read.
+    ReadFault,
+    /// The report could not be written whole.
+    WriteFault,
+    /// There was not enough memory.
+    NoMemory,
+}
+
+impl Status {
+    /// The number by which the program ends.
+    pub fn code(&self) -> u8
+        ensures { result ≡ code_of self.now }
+    {
+        match self {
+            Status::Done => 0,
+            Status::Exhausted(_) => 1,
+            Status::Usage => 2,
+            Status::Refused(_) => 3,
+            Status::ReadFault => 4,
+            Status::WriteFault => 5,
+            Status::NoMemory => 6,
+        }
+    }
+}
