@@ -1,0 +1,42 @@
+//! The program `cd`: it hands its words, standard input and standard output to `run_cd`, and ends with the status.
+#![tactic(auto)]
+
+use cd_app::{Words, run_cd};
+use cd_base::{NoMemory, StdSink, StdSource, Text};
+use cd_field::MapField;
+use std::alloc::{AllocError, Global};
+use std::process::ExitCode;
+use std::{env, io};
+
+// There was no memory for the words.
+const NO_MEMORY: u8 = 6;
+
+// The system does not give the words.
+const NO_WORDS: u8 = 8;
+
+fn main(rt: HostRuntime) -> ExitCode {
+    let alloc = rt.alloc();
+    let Ok(arguments) = env::args(&rt) else {
+        return ExitCode::from(NO_WORDS);
+    };
+    let collected: Result<Vec<String>, AllocError> = arguments.skip(1).collect(alloc);
+    let Ok(collected) = collected else {
+        return ExitCode::from(NO_MEMORY);
+    };
+    let Ok(words) = words_of(alloc, collected.as_slice()) else {
+        return ExitCode::from(NO_MEMORY);
+    };
+    let mut source = StdSource::new(rt.reader());
+    let mut sink = StdSink::new(io::writer(&rt));
+    let mut machine = MapField::empty(alloc);
+    let status = run_cd(alloc, &words, &mut source, &mut sink, &mut machine);
+    ExitCode::from(status.code())
+}
+
+fn words_of(alloc: Global, arguments: &[String]) -> Result<Words, NoMemory> {
+    let mut words = Words::new(alloc);
+    for argument in arguments {
+        words.push(Text::of(alloc, argument.as_str())?)?;
+    }
+    Ok(words)
+}
