@@ -76,7 +76,7 @@ abbrev mutual
   members_meaning (member first rest) before after =
       members_meaning rest before (written (node_writes first) (node_meaning first before) after)
 
--- each of these ranges lies in the entries
+-- each place of the first set is in the second
 abbrev pub LieIn : PlaceSet → PlaceSet → Type 0
 LieIn inner outer = (p : Place) → inner p ≡ true → outer p ≡ true
 
