@@ -1,2 +1,5 @@
 pub mod EndLemmas
 pub mod RangeLemmas
+pub mod LeastLemmas
+pub mod UnionLemmas
+mod RangeCases

@@ -1,19 +1,19 @@
 -- Lemmas on sets of places that are lists of ranges.
-use Rattle.std.proofs.Common.{◌≡◌, ℕ, ◌+◌, ◌<◌, ◌≤◌, Bool, true, false, ◌&&◌, ◌||◌, nat_lt, nat_le, ◌==◌, List, [], ◌∷◌, ◌++◌, length, min, max, refl, sym, ap, ◌∙◌, ◌^◌, subst, inl, inr, arith}
+use Rattle.std.proofs.Common.{◌≡◌, ℕ, ◌+◌, ◌<◌, ◌≤◌, Bool, true, false, ◌&&◌, ◌||◌, nat_lt, nat_le, ◌==◌, List, [], ◌∷◌, ◌++◌, length, min, max, Option, Some, None, refl, sym, ap, ◌∙◌, ◌^◌, subst, inl, inr, arith}
 use Rattle.std.proofs.lemmas.Bool.Decides.{nat_tests}
 use Rattle.std.proofs.lemmas.Bool.{cond_both, cases_Bool, or_from, or_left, false_from_ne_true, true≢false}
 use Rattle.cd_base.specs.declared.place.Place.{Place}
 use Rattle.cd_base.specs.declared.place.Range.{Range}
-use Rattle.cd_base.specs.Words.{in_range, in_ranges}
-use Rattle.cd_base.specs.Places.{is_before, IsBeforeAll, IsOrdered, hull, with_range}
+use Rattle.cd_base.specs.Words.{PlaceSet, in_range, in_ranges}
+use Rattle.cd_base.specs.Places.{is_before, IsBeforeAll, IsOrdered, hull, with_range, stands_before, IsLeast}
 
 -- ---- tests on numbers
 
-or-assoc : (a b c : Bool) → ((a || b) || c) ≡ (a || (b || c))
+pub or-assoc : (a b c : Bool) → ((a || b) || c) ≡ (a || (b || c))
 or-assoc true b c = refl
 or-assoc false b c = refl
 
-or-swap : (a b c : Bool) → (a || (b || c)) ≡ (b || (a || c))
+pub or-swap : (a b c : Bool) → (a || (b || c)) ≡ (b || (a || c))
 or-swap true true c = refl
 or-swap true false c = refl
 or-swap false true c = refl
@@ -148,19 +148,19 @@ in_ranges-after r [] p h k = refl
 in_ranges-after r (s ∷ rs) p h k =
     or_from (in_range s p) (in_ranges rs p) (past_one p.region p.index r.region r.high s.region s.low s.high h k.0) (in_ranges-after r rs p h k.1)
 
-low_in : (a i j : ℕ) → i < j → ((a == a) && (nat_le i i && nat_lt i j)) ≡ true
+pub low_in : (a i j : ℕ) → i < j → ((a == a) && (nat_le i i && nat_lt i j)) ≡ true
 low_in a i j h = grind (arith, nat_tests)
 
-low_out : (a b i k l : ℕ) → (nat_lt a b || ((a == b) && nat_lt i k)) ≡ true → ((b == a) && (nat_le k i && nat_lt i l)) ≡ false
+pub low_out : (a b i k l : ℕ) → (nat_lt a b || ((a == b) && nat_lt i k)) ≡ true → ((b == a) && (nat_le k i && nat_lt i l)) ≡ false
 low_out a b i k l h = grind (arith, nat_tests)
 
-low_before_end : (a b i k l : ℕ) → k < l → (nat_lt a b || ((a == b) && nat_lt i k)) ≡ true → (nat_lt a b || ((a == b) && nat_le i l)) ≡ true
+pub low_before_end : (a b i k l : ℕ) → k < l → (nat_lt a b || ((a == b) && nat_lt i k)) ≡ true → (nat_lt a b || ((a == b) && nat_le i l)) ≡ true
 low_before_end a b i k l p h = grind (arith, nat_tests)
 
-end_out : (a i j : ℕ) → ((a == a) && (nat_le i j && nat_lt j j)) ≡ false
+pub end_out : (a i j : ℕ) → ((a == a) && (nat_le i j && nat_lt j j)) ≡ false
 end_out a i j = grind (arith, nat_tests)
 
-end_at : (a j : ℕ) → (nat_lt a a || ((a == a) && nat_le j j)) ≡ true
+pub end_at : (a j : ℕ) → (nat_lt a a || ((a == a) && nat_le j j)) ≡ true
 end_at a j = grind (arith, nat_tests)
 
 end_in : (a b i j k l : ℕ) → a ≡ b → i ≡ k → i < j → nat_lt j l ≡ true → ((b == a) && (nat_le k j && nat_lt j l)) ≡ true
@@ -234,3 +234,20 @@ IsOrdered-same (r ∷ rs) (s ∷ ss) o u same =
     let again = subst (λ (t : Range). (p : Place) → in_ranges (r ∷ rs) p ≡ in_ranges (t ∷ ss) p) (sym first) same in
     let after = subst (λ (t : Range). IsBeforeAll t ss) (sym first) u.1 in
     ap (λ (t : Range). t ∷ rs) first ∙ ap (λ (l : List Range). s ∷ l) (IsOrdered-same rs ss o.2 u.2 (λ p. same_rest r rs ss p o.1 after (again p)))
+
+-- ---- one set, one least place
+
+-- two places of which neither stands before the other are one
+pub stands_before-neither : (p q : Place) → stands_before p q ≡ false → stands_before q p ≡ false → p ≡ q
+stands_before-neither p q h k =
+    let same = same_start p.region q.region p.index q.index h k in
+    let at_region : ℕ → Place = λ n. record { region = n; index = p.index } in
+    let at_index : ℕ → Place = λ n. record { region = q.region; index = n } in
+    ap at_region same.0 ∙ ap at_index same.1
+
+-- a set has one least place, or none
+pub IsLeast-same : (places : PlaceSet) (one other : Option Place) → IsLeast places one → IsLeast places other → one ≡ other
+IsLeast-same places None None h k = refl
+IsLeast-same places None (Some q) h k = absurd (true≢false (sym k.0 ∙ h q))
+IsLeast-same places (Some p) None h k = absurd (true≢false (sym h.0 ∙ k p))
+IsLeast-same places (Some p) (Some q) h k = ap (λ (r : Place). Some r) (stands_before-neither p q (k.1 p h.0) (h.1 q k.0))

@@ -4,6 +4,7 @@
 
 mod bytes;
 mod items;
+mod least;
 mod memory_sink;
 mod memory_source;
 mod pattern;
@@ -16,6 +17,7 @@ mod std_ends;
 mod tests;
 mod text;
 mod transfer;
+mod united;
 
 pub use bytes::Bytes;
 pub use items::Items;

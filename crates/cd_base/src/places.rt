@@ -1,7 +1,11 @@
-ghost use Rattle.std.specs.Prelude.{◌≡◌, ◌+◌, ◌<◌, ◌≤◌, ◌^◌, ◌||◌, [], length, IfOk, OnOk, OnErr};
+ghost use Rattle.std.specs.Prelude.{◌≡◌, ◌+◌, ◌<◌, ◌≤◌, ◌^◌, ◌&&◌, ◌||◌, [], length, All, IfOk, OnOk, OnErr};
+ghost use Rattle.cd_base.specs.declared.place.Place.{Place};
+ghost use Rattle.cd_base.specs.declared.place.Range.{Range};
 ghost use Rattle.cd_base.specs.Words.{in_range, in_ranges};
-ghost use Rattle.cd_base.specs.Places.{IsOrdered, is_before, hull, with_range};
+ghost use Rattle.cd_base.specs.Places.{IsOrdered, IsLeast, in_both, in_second_alone, is_before, hull, with_range};
 
+use crate::least::{first_common, first_lacking};
+use crate::united::united;
 use crate::{NoMemory, Place, Range};
 use std::alloc::Global;
 use std::marker::Model;
@@ -36,6 +40,38 @@ impl Places {
         }
     }
 
+    /// The set of the places of some ranges. It takes time n log n in their number.
+    pub fn of(alloc: Global, ranges: &[Range]) -> Result<Places, NoMemory>
+        requires full { All (λ (range : Range). range.low < range.high) ranges.now }
+        requires few { length ranges.now < 2 ^ 32 }
+        ensures places { IfOk result (λ set. (q : Place) → in_ranges set q ≡ in_ranges ranges.now q) }
+        ensures few { IfOk result (λ set. length set ≤ length ranges.now) }
+    {
+        match ranges {
+            [] => Ok(Places::new(alloc)),
+            [range] => {
+                let mut set = Places::new(alloc);
+                set.add(*range)?;
+                Ok(set)
+            }
+            _ => {
+                let (first, second) = ranges.split_at(ranges.len() / 2);
+                let mut set = Places::of(alloc, first)?;
+                let other = Places::of(alloc, second)?;
+                set.union(&other)?;
+                Ok(set)
+            }
+        }
+    }
+
+    /// A set of the same places, in memory of its own.
+    pub fn try_clone(&self, alloc: Global) -> Result<Places, NoMemory>
+        ensures { IfOk result (λ set. set ≡ self.now) }
+    {
+        let ranges = Vec::from_slice(alloc, &self.ranges)?;
+        Ok(Places { ranges, alloc })
+    }
+
     /// Adds the places of a range. The set takes at most one range more.
     pub fn add(&mut self, range: Range) -> Result<(), NoMemory>
         requires some { range.low < range.high }
@@ -47,6 +83,43 @@ impl Places {
         let ranges = with(self.alloc, &self.ranges, range)?;
         self.ranges = ranges;
         Ok(())
+    }
+
+    /// Adds the places of another set. It takes one pass over both, and memory for the new ranges beside the old.
+    pub fn union(&mut self, other: &Places) -> Result<(), NoMemory>
+        requires room { length self.old + length other.now < 2 ^ 32 }
+        ensures places { OnOk result ((q : Place) → in_ranges self.new q ≡ (in_ranges self.old q || in_ranges other.now q)) }
+        ensures few { length self.new ≤ length self.old + length other.now }
+        ensures unchanged { OnErr result (self.new ≡ self.old) }
+    {
+        let ranges = united(self.alloc, &self.ranges, &other.ranges)?;
+        self.ranges = ranges;
+        Ok(())
+    }
+
+    /// The least place of both sets. It takes one pass over both, and no memory.
+    pub fn meets(&self, other: &Places) -> Option<Place>
+        ensures { IsLeast (in_both self.now other.now) result }
+    {
+        first_common(&self.ranges, &other.ranges)
+    }
+
+    /// The least place of the other set that is not in this one. It takes one pass over both, and no memory.
+    pub fn lacks(&self, other: &Places) -> Option<Place>
+        ensures { IsLeast (in_second_alone self.now other.now) result }
+    {
+        first_lacking(&self.ranges, &other.ranges)
+    }
+
+    /// The least place of the set that lies in a range. It takes one pass over the set, and no memory.
+    pub fn first_in(&self, range: Range) -> Option<Place>
+        ensures { IsLeast (λ q. in_ranges self.now q && in_range range q) result }
+    {
+        if range.low < range.high {
+            first_common(&self.ranges, &[range])
+        } else {
+            None
+        }
     }
 
     /// Whether a place is in the set. It takes no memory.
@@ -90,13 +163,13 @@ fn with(alloc: Global, ranges: &[Range], mut range: Range) -> Result<Vec<Range>,
     Ok(all)
 }
 
-fn comes_before(range: Range, other: Range) -> bool
+pub(crate) fn comes_before(range: Range, other: Range) -> bool
     ensures { result ≡ is_before range other }
 {
     range.region < other.region || range.region == other.region && range.high < other.low
 }
 
-fn joined(range: Range, other: Range) -> Range
+pub(crate) fn joined(range: Range, other: Range) -> Range
     ensures { result ≡ hull range other }
 {
     Range {

@@ -93,6 +93,157 @@ fn ranges_join_where_they_overlap_or_touch(rt: HostRuntime) -> Result<(), Fail> 
     Ok(())
 }
 
+// The set of some ranges, of which none is to be empty.
+fn set(alloc: Global, ranges: &[Range]) -> Result<Places, Fail> {
+    if ranges.len() < 100 && ranges.iter().all(|range| range.low < range.high) {
+        Ok(Places::of(alloc, ranges)?)
+    } else {
+        Ok(Places::new(alloc))
+    }
+}
+
+// The two sets as one.
+fn union(alloc: Global, one: &Places, other: &Places) -> Result<Places, Fail> {
+    let mut both = one.try_clone(alloc)?;
+    if both.ranges().len() < 100 && other.ranges().len() < 100 {
+        both.union(other)?;
+    }
+    Ok(both)
+}
+
+#[test]
+fn two_sets_are_united_and_compared(rt: HostRuntime) -> Result<(), Fail> {
+    let alloc = rt.alloc();
+    let at = |region: u32, index: u32| Some(Place { region, index });
+    let (left, right) = (range(0, 2, 4), range(1, 2, 4));
+    let pair = [left, right];
+    for (other, both, common, lacking) in [
+        // touching
+        (
+            [range(0, 4, 6), range(1, 0, 2)],
+            [range(0, 2, 6), range(1, 0, 4)],
+            None,
+            at(0, 4),
+        ),
+        // overlapping
+        (
+            [range(1, 3, 5), range(0, 1, 3)],
+            [range(0, 1, 4), range(1, 2, 5)],
+            at(0, 2),
+            at(0, 1),
+        ),
+        // nested
+        (
+            [range(0, 1, 9), range(1, 3, 4)],
+            [range(0, 1, 9), range(1, 2, 4)],
+            at(0, 2),
+            at(0, 1),
+        ),
+        ([range(1, 2, 3), range(0, 3, 4)], pair, at(0, 3), None),
+        // the same
+        (pair, pair, at(0, 2), None),
+        // the end of a region is not the start of the next
+        (
+            [range(0, 0, u32::MAX), range(1, 2, 4)],
+            [range(0, 0, u32::MAX), right],
+            at(0, 2),
+            at(0, 0),
+        ),
+    ] {
+        let one = set(alloc, &pair)?;
+        let other = set(alloc, &other)?;
+        assert_eq!(rt; union(alloc, &one, &other)?.ranges(), both.as_slice());
+        assert_eq!(rt; one.meets(&other), common);
+        assert_eq!(rt; one.lacks(&other), lacking);
+    }
+    Ok(())
+}
+
+#[test]
+fn a_set_of_ranges_in_any_order(rt: HostRuntime) -> Result<(), Fail> {
+    let ranges = [
+        range(1, 4, 6),
+        range(0, 7, 9),
+        range(1, 0, 2),
+        range(0, 0, 3),
+        range(0, 2, 5),
+        range(0, 8, 9),
+        range(1, 2, 4),
+    ];
+    let set = set(rt.alloc(), &ranges)?;
+    assert_eq!(rt;
+        set.ranges(),
+        [range(0, 0, 5), range(0, 7, 9), range(1, 0, 6)].as_slice()
+    );
+    for (part, first) in [
+        (range(0, 3, 9), Some((0, 3))),
+        (range(0, 5, 7), None),
+        (range(0, 5, 8), Some((0, 7))),
+        (range(0, 9, u32::MAX), None),
+        (range(1, 0, 0), None),
+        (range(1, 5, 9), Some((1, 5))),
+        (range(2, 0, 9), None),
+    ] {
+        let place = first.map(|(region, index)| Place { region, index });
+        assert_eq!(rt; set.first_in(part), place);
+    }
+    Ok(())
+}
+
+// The sets of places of two regions of five places that are at most three ranges.
+fn small_sets(alloc: Global) -> Result<Vec<Places>, Fail> {
+    let mut sets = Vec::new(alloc);
+    for mask in 0..1024u32 {
+        let mut places = Places::new(alloc);
+        for bit in 0..10u32 {
+            if mask >> bit & 1 == 1 && places.ranges().len() < 100 {
+                places.add(range(bit / 5, bit % 5, bit % 5 + 1))?;
+            }
+        }
+        if places.ranges().len() <= 3 {
+            sets.push(places)?;
+        }
+    }
+    Ok(sets)
+}
+
+// Whether the answers on two such sets are those of a plain loop over all places.
+fn agree(alloc: Global, one: &Places, other: &Places) -> Result<bool, Fail> {
+    let both = union(alloc, one, other)?;
+    let mut common = None;
+    let mut lacking = None;
+    for bit in 0..10u32 {
+        let place = Place {
+            region: bit / 5,
+            index: bit % 5,
+        };
+        let (here, there) = (one.has(place), other.has(place));
+        if both.has(place) != (here || there) {
+            return Ok(false);
+        }
+        if common.is_none() && here && there {
+            common = Some(place);
+        }
+        if lacking.is_none() && there && !here {
+            lacking = Some(place);
+        }
+    }
+    Ok(one.meets(other) == common && one.lacks(other) == lacking)
+}
+
+#[test]
+fn all_pairs_of_small_sets_agree_with_a_plain_loop(rt: HostRuntime) -> Result<(), Fail> {
+    let alloc = rt.alloc();
+    let sets = small_sets(alloc)?;
+    assert_eq!(rt; sets.len(), 738);
+    for one in &sets {
+        for other in &sets {
+            assert!(rt; agree(alloc, one, other)?);
+        }
+    }
+    Ok(())
+}
+
 fn source(
     alloc: Global,
     bytes: &[u8],
