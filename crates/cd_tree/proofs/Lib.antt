@@ -21,3 +21,10 @@ pub mod PathEnds
 pub mod PathOnly
 pub mod Reach
 mod WorkedLegal
+pub mod EachDomain
+pub mod Covers
+pub mod Needs
+pub mod DeclaredPaths
+pub mod Declarations
+mod WorkedChecks
+mod WorkedRefusals

@@ -5,9 +5,9 @@ use Rattle.std.proofs.lemmas.List.Elements.{Contains-append_right}
 use Rattle.std.proofs.lemmas.Option.{slice_get_within, slice_get-get_or}
 use Rattle.cd_tree.specs.declared.domain.NodeId.{NodeId}
 use Rattle.cd_tree.specs.declared.domain.Domain.{Domain}
-use Rattle.cd_tree.specs.declared.kinds.KindName.{KindName}
-use Rattle.cd_tree.specs.Outlines.{Outline, IsTree, EachFits}
+use Rattle.cd_tree.specs.Outlines.{Outline, IsTree}
 use Rattle.cd_tree.specs.Paths.{path_text_of}
+use Rattle.cd_tree.proofs.View.{domain_fits}
 use Rattle.cd_tree.proofs.PathParents.{parent_before}
 use Rattle.cd_tree.proofs.PathTexts.{text_of_root, text_of_child}
 
@@ -33,17 +33,9 @@ last_slash (x ∷ front) (y ∷ other) name rest p q same =
     let fronts : front ≡ other = both.0 in
     (cc, both.1)
 
-each_name : (kinds : List KindName) (all : List Domain) (at : ℕ) (domains : List Domain) (k : ℕ) (domain : Domain)
-    → EachFits kinds all at domains → slice_get domains k ≡ Some domain → NoSlash domain.name
-each_name kinds all at [] k domain fits is = absurd (cc)
-each_name kinds all at (first ∷ domains) zero domain (here, fits) is =
-    let same : first ≡ domain = cc in
-    rw (← same) here.name
-each_name kinds all at (first ∷ domains) (suc k) domain (here, fits) is = each_name kinds all (suc at) domains k domain fits is
-
 name_has_no_slash : (tree : Outline) → IsTree tree → (id : NodeId) (domain : Domain) → slice_get tree.domains id.0 ≡ Some domain
     → NoSlash domain.name
-name_has_no_slash tree is id domain there = each_name tree.kinds tree.domains 0 tree.domains id.0 domain is.each there
+name_has_no_slash tree is id domain there = (domain_fits tree is id domain there).name
 
 -- the same number, the same domain
 same_number : (id other : NodeId) → id.0 ≡ other.0 → id ≡ other

@@ -64,7 +64,7 @@ path_at paths (first ∷ domains) (suc k) domain is earlier =
     rw size (path_at more domains k domain is (rw size at earlier))
 
 -- a path is its parent's with the domain's number behind
-path_step : (domains : List Domain) (id : NodeId) (domain : Domain) → slice_get domains id.0 ≡ Some domain
+pub path_step : (domains : List Domain) (id : NodeId) (domain : Domain) → slice_get domains id.0 ≡ Some domain
     → IfSome domain.parent (λ p. p.0 < id.0) → path_of domains id ≡ path_under (paths_from [] domains) domain.parent ++ id ∷ []
 path_step domains id domain is earlier =
     let sum : 0 + id.0 ≡ id.0 = omega arith in
@@ -79,7 +79,7 @@ joined_last c (first ∷ second ∷ names) above name =
     ap (λ (rest : List ℕ). first ++ c ∷ rest) (joined_last c (second ∷ names) above name)
     ∙ sym (append_assoc first (c ∷ join_with_byte c ((second ∷ names) ++ above ∷ [])) (c ∷ name))
 
-earlier_parent : (tree : Outline) → IsTree tree → (id : NodeId) (domain : Domain) → slice_get tree.domains id.0 ≡ Some domain
+pub earlier_parent : (tree : Outline) → IsTree tree → (id : NodeId) (domain : Domain) → slice_get tree.domains id.0 ≡ Some domain
     → (parent : Option NodeId) → domain.parent ≡ parent → IfSome parent (λ p. p.0 < id.0)
 earlier_parent tree is id domain there None up = tt
 earlier_parent tree is id domain there (Some parent) up = parent_before tree is id domain there parent up

@@ -7,7 +7,7 @@ use Rattle.cd_tree.specs.declared.domain.Item.TheVariants.{Run, Group}
 use Rattle.cd_tree.specs.declared.domain.Domain.{Domain}
 use Rattle.cd_tree.specs.declared.kinds.KindName.{KindName}
 use Rattle.cd_tree.specs.Domains.{Node, node, Body, members_by, body_by, nodes_from, node_of}
-use Rattle.cd_tree.specs.Outlines.{Outline, IsTree, NamesChildren, FitsItems, EachFits}
+use Rattle.cd_tree.specs.Outlines.{Outline, IsTree, NamesChildren, FitsItems, FitsDomain, EachFits}
 
 -- each of these numbers is above a number
 abbrev pub NamesLater : ℕ → List NodeId → Type 0
@@ -104,23 +104,29 @@ items_name_later domains at (Run op ∷ items) (full, shape, fits) = items_name_
 items_name_later domains at (Group ids ∷ items) (some, few, named, fits) =
     (names_children_later domains at ids named, items_name_later domains at items fits)
 
-each_names_later : (kinds : List KindName) (all : List Domain) (at : ℕ) (domains : List Domain) (k : ℕ) (domain : Domain)
-    → EachFits kinds all at domains → slice_get domains k ≡ Some domain → GroupsNameLater (at + k) domain.items
-each_names_later kinds all at [] k domain fits is = absurd (cc)
-each_names_later kinds all at (first ∷ domains) zero domain (here, fits) is =
+fits_at : (kinds : List KindName) (all : List Domain) (at : ℕ) (domains : List Domain) (k : ℕ) (domain : Domain)
+    → EachFits kinds all at domains → slice_get domains k ≡ Some domain → FitsDomain kinds all (at + k) domain
+fits_at kinds all at [] k domain fits is = absurd (cc)
+fits_at kinds all at (first ∷ domains) zero domain (here, fits) is =
     let same : first ≡ domain = cc in
     let sum : at + 0 ≡ at = omega arith in
-    rw (sum, ← same) (items_name_later all at first.items here.items)
-each_names_later kinds all at (first ∷ domains) (suc k) domain (here, fits) is =
+    rw (sum, ← same) here
+fits_at kinds all at (first ∷ domains) (suc k) domain (here, fits) is =
     let sum : at + suc k ≡ suc at + k = omega arith in
-    rw sum (each_names_later kinds all (suc at) domains k domain fits is)
+    rw sum (fits_at kinds all (suc at) domains k domain fits is)
+
+-- each domain of a program is as a program wants it
+pub domain_fits : (tree : Outline) → IsTree tree → (id : NodeId) (domain : Domain) → slice_get tree.domains id.0 ≡ Some domain
+    → FitsDomain tree.kinds tree.domains id.0 domain
+domain_fits tree is id domain there =
+    let sum : 0 + id.0 ≡ id.0 = omega arith in
+    rw sum at (fits_at tree.kinds tree.domains 0 tree.domains id.0 domain is.each there)
 
 -- the groups of each domain of a program name later domains
 pub tree_names_later : (tree : Outline) → IsTree tree → (id : NodeId) (domain : Domain)
     → slice_get tree.domains id.0 ≡ Some domain → GroupsNameLater id.0 domain.items
 tree_names_later tree is id domain there =
-    let sum : 0 + id.0 ≡ id.0 = omega arith in
-    rw sum at (each_names_later tree.kinds tree.domains 0 tree.domains id.0 domain is.each there)
+    items_name_later tree.domains id.0 domain.items (domain_fits tree is id domain there).items
 
 pub nested_view_follows_where : (domains : List Domain) (id : NodeId) (domain : Domain)
     → slice_get domains id.0 ≡ Some domain → GroupsNameLater id.0 domain.items

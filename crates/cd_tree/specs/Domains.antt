@@ -98,3 +98,17 @@ abbrev mutual
 abbrev pub numbers_from : ℕ → ℕ → List ℕ
 numbers_from at zero = []
 numbers_from at (suc n) = at ∷ numbers_from (suc at) n
+
+abbrev mutual
+  -- a property of a domain and of all domains below it
+  pub Throughout : (Node → Type 0) → Node → Type 0
+  Throughout P (node id domain body) = P (node id domain body) × ThroughoutBody P body
+
+  pub ThroughoutBody : (Node → Type 0) → Body → Type 0
+  ThroughoutBody P stop = Unit {0}
+  ThroughoutBody P (run op rest) = ThroughoutBody P rest
+  ThroughoutBody P (group members rest) = ThroughoutMembers P members × ThroughoutBody P rest
+
+  pub ThroughoutMembers : (Node → Type 0) → Members → Type 0
+  ThroughoutMembers P no_more = Unit {0}
+  ThroughoutMembers P (member first rest) = Throughout P first × ThroughoutMembers P rest

@@ -1,15 +1,16 @@
 -- The laws: what holds of the definitions for every program and every script. Each is a contract of `laws`.
-use Rattle.std.specs.Prelude.{ℕ, ◌+◌, ◌≤◌, List, length, ◌≡◌, ◌⊎◌, bit_and, Some, slice_get, true, IsSome}
+use Rattle.std.specs.Prelude.{ℕ, ◌+◌, ◌<◌, ◌≤◌, List, [], ◌∷◌, ◌++◌, length, ◌≡◌, ◌⊎◌, ◌↔◌, All, IsTrue, bit_and, Some, slice_get, true, false, IsSome}
+use Rattle.std.specs.Option.{option_map_or}
 use Rattle.cd_base.specs.declared.place.Place.{Place}
 use Rattle.cd_base.specs.Words.{Words}
-use Rattle.cd_tree.specs.Meaning.{in_entries, node_reach, node_meaning, IsCovered}
-use Rattle.cd_tree.specs.Domains.{domain_of, Node, node, body_by, node_of}
-use Rattle.cd_tree.specs.KindSets.{no_kinds}
+use Rattle.cd_tree.specs.Meaning.{in_entries, node_reach, node_meaning, IsCovered, uncovered, GroupsApart, IsDisjoint, node_need}
+use Rattle.cd_tree.specs.Domains.{domain_of, body_of, Node, node, body_by, node_of, root_of}
+use Rattle.cd_tree.specs.KindSets.{no_kinds, has_kind}
 use Rattle.cd_tree.specs.Outlines.{Outline, IsTree}
 use Rattle.cd_tree.specs.Paths.{path_text_of}
 use Rattle.cd_tree.specs.Reading.{Case, Counts, Blame, NodeEnd, Done, Escalated, read_node}
 use Rattle.cd_tree.specs.Record.{reading}
-use Rattle.cd_tree.specs.Scripts.{IsDetectable, IsAccepted}
+use Rattle.cd_tree.specs.Scripts.{IsDetectable, IsAccepted, declared_for, path_of}
 use Rattle.cd_tree.specs.declared.document.Fault.{Fault}
 use Rattle.cd_tree.specs.declared.domain.Domain.{Domain}
 use Rattle.cd_tree.specs.declared.domain.NodeId.{NodeId}
@@ -71,3 +72,45 @@ CoveredReach = (d : Node) (p : Place) → IsCovered d → node_reach d p ≡ tru
 -- a place that has a word has one after a program in which nothing fails
 abbrev pub WordsStay : Type 0
 WordsStay = (d : Node) (w : Words) (p : Place) → IsSome (w p) → IsSome (node_meaning d w p)
+
+-- a covered domain reaches the places of its entries and no others
+abbrev pub ReachIsEntries : Type 0
+ReachIsEntries = (d : Node) (p : Place) → IsCovered d → node_reach d p ≡ in_entries (domain_of d).entries p
+
+-- a property of each domain of a program
+abbrev pub OfEach : Outline → (Node → Type 0) → Type 0
+OfEach tree P = (id : NodeId) (d : Node) → node_of tree.domains id ≡ Some d → P d
+
+-- a program is disjoint where the groups of each of its domains are apart
+abbrev pub DisjointByDomains : Type 0
+DisjointByDomains =
+    (tree : Outline) → IsTree tree → OfEach tree (λ d. GroupsApart (body_of d)) ↔ IsDisjoint (root_of tree.domains)
+
+-- a program is covered where the entries of each of its domains leave nothing out that its body touches
+abbrev pub CoveredByDomains : Type 0
+CoveredByDomains =
+    (tree : Outline) → IsTree tree
+    → OfEach tree (λ d. (p : Place) → uncovered d p ≡ false) ↔ IsCovered (root_of tree.domains)
+
+-- a script is detectable in a program where the kind of each fault of a domain is declared on that domain's path
+abbrev pub DetectableByPaths : Type 0
+DetectableByPaths =
+    (tree : Outline) (faults : List Fault) → IsTree tree
+    → All (λ (fault : Fault). fault.node.0 < length tree.domains → IsTrue (has_kind (declared_for tree.domains fault.node) fault.kind)) faults
+    ↔ IsDetectable faults no_kinds (root_of tree.domains)
+
+-- no domain of a program needs more blocks than the program
+abbrev pub NeedIsRoots : Type 0
+NeedIsRoots = (tree : Outline) → IsTree tree → OfEach tree (λ d. node_need d ≤ node_need (root_of tree.domains))
+
+-- the parent of a domain of a program stands before it
+abbrev pub ParentsComeFirst : Type 0
+ParentsComeFirst =
+    (tree : Outline) → IsTree tree → (id parent : NodeId) (domain : Domain) → slice_get tree.domains id.0 ≡ Some domain
+    → domain.parent ≡ Some parent → parent.0 < id.0
+
+-- the path of a domain is its parent's, and then the domain; the root's is the root alone
+abbrev pub PathsGoDown : Type 0
+PathsGoDown =
+    (tree : Outline) → IsTree tree → (id : NodeId) (domain : Domain) → slice_get tree.domains id.0 ≡ Some domain
+    → path_of tree.domains id ≡ option_map_or (path_of tree.domains) domain.parent [] ++ id ∷ []

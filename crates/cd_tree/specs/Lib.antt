@@ -8,4 +8,5 @@ pub mod Reading
 pub mod Record
 pub mod Legal
 pub mod Paths
+pub mod Refusals
 pub mod Laws

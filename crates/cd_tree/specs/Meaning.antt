@@ -1,5 +1,5 @@
 -- What a program touches, what it computes where nothing fails, and how many blocks a run of it needs.
-use Rattle.std.specs.Prelude.{◌≡◌, ℕ, ◌+◌, ◌/◌, ◌||◌, true, false, List, [], ◌∷◌, if◌then◌else◌, max, sum_by, Option, Some, None, nat_lt, slice_get}
+use Rattle.std.specs.Prelude.{◌≡◌, ℕ, ◌+◌, ◌/◌, ◌&&◌, ◌||◌, not, true, false, List, [], ◌∷◌, if◌then◌else◌, max, sum_by, Option, Some, None, nat_lt, slice_get}
 use Rattle.cd_base.specs.declared.place.Place.{Place}
 use Rattle.cd_base.specs.declared.place.Range.{Range}
 use Rattle.cd_base.specs.Words.{Words, PlaceSet, in_range, in_ranges, pattern_word}
@@ -8,7 +8,7 @@ use Rattle.cd_tree.specs.declared.domain.How.{How}
 use Rattle.cd_tree.specs.declared.domain.How.TheVariants.{Copy, Refer, Regen}
 use Rattle.cd_tree.specs.declared.document.Region.{Region}
 use Rattle.cd_tree.specs.Operations.{op_reads, op_writes, op_meaning, length_of}
-use Rattle.cd_tree.specs.Domains.{Node, Body, Members, node, stop, run, group, no_more, member}
+use Rattle.cd_tree.specs.Domains.{Node, Body, Members, node, stop, run, group, no_more, member, body_of, Throughout}
 
 -- the word that a region begins with at an index
 abbrev pub initial_word : Option Region → ℕ → Option ℕ
@@ -76,6 +76,31 @@ abbrev mutual
   members_meaning (member first rest) before after =
       members_meaning rest before (written (node_writes first) (node_meaning first before) after)
 
+-- the places at which two domains interfere: one of them writes there, and the other reaches there
+abbrev pub clash : Node → Node → PlaceSet
+clash one other p = (node_writes one p && node_reach other p) || (node_writes other p && node_reach one p)
+
+abbrev pub AreApart : Node → Node → Type 0
+AreApart one other = (p : Place) → clash one other p ≡ false
+
+abbrev pub IsApartFrom : Node → Members → Type 0
+IsApartFrom one no_more = Unit {0}
+IsApartFrom one (member first rest) = AreApart one first × IsApartFrom one rest
+
+-- no two members of a group interfere
+abbrev pub MembersApart : Members → Type 0
+MembersApart no_more = Unit {0}
+MembersApart (member first rest) = IsApartFrom first rest × MembersApart rest
+
+abbrev pub GroupsApart : Body → Type 0
+GroupsApart stop = Unit {0}
+GroupsApart (run op rest) = GroupsApart rest
+GroupsApart (group members rest) = MembersApart members × GroupsApart rest
+
+-- in each group of a domain and of those below it no two members interfere
+abbrev pub IsDisjoint : Node → Type 0
+IsDisjoint d = Throughout (λ e. GroupsApart (body_of e)) d
+
 -- each place of the first set is in the second
 abbrev pub LieIn : PlaceSet → PlaceSet → Type 0
 LieIn inner outer = (p : Place) → inner p ≡ true → outer p ≡ true
@@ -94,6 +119,10 @@ abbrev mutual
   CoversMembers entries no_more = Unit {0}
   CoversMembers entries (member first rest) =
       LieIn (node_reach first) entries × IsCovered first × CoversMembers entries rest
+
+-- the places that a domain's own body touches and its entries leave out
+abbrev pub uncovered : Node → PlaceSet
+uncovered (node id domain body) p = (body_reads body p || body_writes body p) && not (in_entries domain.entries p)
 
 -- the blocks of 64 words that a copy of a range takes
 abbrev pub blocks_of : Range → ℕ

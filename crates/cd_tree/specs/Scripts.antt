@@ -1,5 +1,6 @@
 -- Fault scripts: which entries strike where, and what it means that a script is accepted for a program.
 use Rattle.std.specs.Prelude.{◌≡◌, ℕ, ◌≤◌, Bool, true, ◌&&◌, ◌==◌, bit_or, IsTrue, List, [], ◌∷◌, ◌++◌, Option, None, Some, length, filter, slice_get, unwrap_or, All, IsSomeAnd}
+use Rattle.std.specs.Option.{option_map_or}
 use Rattle.cd_base.specs.Words.{Words, struck_word}
 use Rattle.cd_tree.specs.declared.domain.NodeId.{NodeId}
 use Rattle.cd_tree.specs.declared.domain.Domain.{Domain}
@@ -68,3 +69,13 @@ paths_from paths (domain ∷ domains) =
 -- a domain's ancestors from the root on, then the domain
 abbrev pub path_of : List Domain → NodeId → List NodeId
 path_of domains id = unwrap_or (slice_get (paths_from [] domains) id.0) []
+
+-- the kinds that some domains, by their numbers, declare
+abbrev pub declared_by : List Domain → List NodeId → ℕ
+declared_by domains [] = no_kinds
+declared_by domains (id ∷ ids) =
+    bit_or (option_map_or (λ (domain : Domain). domain.detects) (slice_get domains id.0) no_kinds) (declared_by domains ids)
+
+-- the kinds that a domain or one above it declares
+abbrev pub declared_for : List Domain → NodeId → ℕ
+declared_for domains id = declared_by domains (path_of domains id)

@@ -1,6 +1,6 @@
 //! The laws of the reading, each the contract of a function that does nothing: to call it is to have the law.
 
-ghost use Rattle.cd_tree.specs.Laws.{RepeatsAreAtMostStrikes, StrikesAreAtMostEntries, RepeatsAreAtMostEntries, CountsAreAtMostOneMoreThanEntries, NestedViewFollows, NoLeakHalts, FoundAtRoots, FoundInPrograms, PathsDiffer, CoveredReach, WordsStay};
+ghost use Rattle.cd_tree.specs.Laws.{RepeatsAreAtMostStrikes, StrikesAreAtMostEntries, RepeatsAreAtMostEntries, CountsAreAtMostOneMoreThanEntries, NestedViewFollows, NoLeakHalts, FoundAtRoots, FoundInPrograms, PathsDiffer, CoveredReach, ReachIsEntries, DisjointByDomains, CoveredByDomains, DetectableByPaths, NeedIsRoots, ParentsComeFirst, PathsGoDown, WordsStay};
 
 /// No more tries are repeated than faults strike, and no more faults strike than the script has entries.
 pub fn repeats_are_at_most_strikes()
@@ -39,7 +39,30 @@ pub fn no_two_domains_share_a_path()
 
 /// A domain whose entries cover what its body touches reaches no other place.
 pub fn a_covered_domain_reaches_its_entries_alone()
-    ensures { CoveredReach }
+    ensures within { CoveredReach }
+    ensures same { ReachIsEntries }
+{}
+
+/// Whether siblings are apart, and whether bodies are covered, are questions to each domain by itself.
+pub fn each_domain_answers_for_itself()
+    ensures disjoint { DisjointByDomains }
+    ensures covered { CoveredByDomains }
+{}
+
+/// The kinds that a domain's faults may have are those that it and the domains above it declare.
+pub fn kinds_are_declared_on_the_path()
+    ensures { DetectableByPaths }
+{}
+
+/// What serves the root's need serves that of each domain.
+pub fn the_root_needs_the_most()
+    ensures { NeedIsRoots }
+{}
+
+/// Parents stand before their children, and paths go down from parent to child.
+pub fn paths_go_from_parent_to_child()
+    ensures parents { ParentsComeFirst }
+    ensures paths { PathsGoDown }
 {}
 
 /// Computing takes no word away.

@@ -36,7 +36,7 @@ pub run_tries-requires-clause-runs : goal.run_tries-requires-clause-runs
 run_tries-requires-clause-runs g c =
     let domain : Domain = c.node-domain.result.now in
     let one : c.args.tree.now.domains ≡ domain ∷ [] = only_one _ domain c.requires.simple.one c.node-domain.ensures in
-    λ _ _. (run_starts c.a_covered_domain_reaches_its_entries_alone.ensures c.args.tree.now domain (g.F.Field.state c.args.field.now) (g.F.Field.state c.begin.new.self) (g.F.Field.state c.save_all.new.field)
+    λ _ _. (run_starts c.a_covered_domain_reaches_its_entries_alone.ensures.within c.args.tree.now domain (g.F.Field.state c.args.field.now) (g.F.Field.state c.begin.new.self) (g.F.Field.state c.save_all.new.field)
     c.items.result.now one (runnable c.args.tree.now domain one c.count.ensures.sound c.requires.simple)
     c.requires.present c.requires.accepted c.requires.events c.in_ok-begin.ensures c.items.ensures.value c.in_ok-copies.ensures.told).0
 
@@ -55,7 +55,7 @@ restore_all-requires-clause-fits g c =
     let one : tree.domains ≡ domain ∷ [] = only_one _ domain c.requires.simple.one c.node-domain.ensures in
     let runs : IsRunnable domain = runnable tree domain one c.count.ensures.sound c.requires.simple in
     let start : CanRun domain.entries (g.F.Field.state c.save_all.new.field) × IsReady domain was (g.F.Field.state c.save_all.new.field) (domain.retry - 1) =
-    run_starts c.a_covered_domain_reaches_its_entries_alone.ensures tree domain was (g.F.Field.state c.begin.new.self) (g.F.Field.state c.save_all.new.field) c.items.result.now one runs
+    run_starts c.a_covered_domain_reaches_its_entries_alone.ensures.within tree domain was (g.F.Field.state c.begin.new.self) (g.F.Field.state c.save_all.new.field) c.items.result.now one runs
     c.requires.present c.requires.accepted c.requires.events c.in_ok-begin.ensures c.items.ensures.value c.in_ok-copies.ensures.told in
     let ends : EndsWith domain was (g.F.Field.state c.run_tries.new.field) c.in_ok-last.last.begins c.in_ok-last.last.found =
     c.in_ok-last.ensures was start.1 in
@@ -74,7 +74,7 @@ restore_all-requires-clause-known g c =
     let one : tree.domains ≡ domain ∷ [] = only_one _ domain c.requires.simple.one c.node-domain.ensures in
     let runs : IsRunnable domain = runnable tree domain one c.count.ensures.sound c.requires.simple in
     let start : CanRun domain.entries (g.F.Field.state c.save_all.new.field) × IsReady domain was (g.F.Field.state c.save_all.new.field) (domain.retry - 1) =
-    run_starts c.a_covered_domain_reaches_its_entries_alone.ensures tree domain was (g.F.Field.state c.begin.new.self) (g.F.Field.state c.save_all.new.field) c.items.result.now one runs
+    run_starts c.a_covered_domain_reaches_its_entries_alone.ensures.within tree domain was (g.F.Field.state c.begin.new.self) (g.F.Field.state c.save_all.new.field) c.items.result.now one runs
     c.requires.present c.requires.accepted c.requires.events c.in_ok-begin.ensures c.items.ensures.value c.in_ok-copies.ensures.told in
     let ends : EndsWith domain was (g.F.Field.state c.run_tries.new.field) c.in_ok-last.last.begins c.in_ok-last.last.found =
     c.in_ok-last.ensures was start.1 in
@@ -89,7 +89,7 @@ returns-then-is_none-clause-machine g c =
     let one : tree.domains ≡ domain ∷ [] = only_one _ domain c.requires.simple.one c.node-domain.ensures in
     let runs : IsRunnable domain = runnable tree domain one c.count.ensures.sound c.requires.simple in
     let start : CanRun domain.entries (g.F.Field.state c.save_all.new.field) × IsReady domain was (g.F.Field.state c.save_all.new.field) (domain.retry - 1) =
-    run_starts c.a_covered_domain_reaches_its_entries_alone.ensures tree domain was (g.F.Field.state c.begin.new.self) (g.F.Field.state c.save_all.new.field) c.items.result.now one runs
+    run_starts c.a_covered_domain_reaches_its_entries_alone.ensures.within tree domain was (g.F.Field.state c.begin.new.self) (g.F.Field.state c.save_all.new.field) c.items.result.now one runs
     c.requires.present c.requires.accepted c.requires.events c.in_ok-begin.ensures c.items.ensures.value c.in_ok-copies.ensures.told in
     let ends : EndsWith domain was (g.F.Field.state c.run_tries.new.field) c.in_ok-last.last.begins c.in_ok-last.last.found =
     c.in_ok-last.ensures was start.1 in
@@ -107,7 +107,7 @@ returns-then-is_none-clause-begins g c =
     let one : tree.domains ≡ domain ∷ [] = only_one _ domain c.requires.simple.one c.node-domain.ensures in
     let runs : IsRunnable domain = runnable tree domain one c.count.ensures.sound c.requires.simple in
     let start : CanRun domain.entries (g.F.Field.state c.save_all.new.field) × IsReady domain was (g.F.Field.state c.save_all.new.field) (domain.retry - 1) =
-    run_starts c.a_covered_domain_reaches_its_entries_alone.ensures tree domain was (g.F.Field.state c.begin.new.self) (g.F.Field.state c.save_all.new.field) c.items.result.now one runs
+    run_starts c.a_covered_domain_reaches_its_entries_alone.ensures.within tree domain was (g.F.Field.state c.begin.new.self) (g.F.Field.state c.save_all.new.field) c.items.result.now one runs
     c.requires.present c.requires.accepted c.requires.events c.in_ok-begin.ensures c.items.ensures.value c.in_ok-copies.ensures.told in
     let ends : EndsWith domain was (g.F.Field.state c.run_tries.new.field) c.in_ok-last.last.begins c.in_ok-last.last.found =
     c.in_ok-last.ensures was start.1 in
@@ -125,7 +125,7 @@ returns-then-is_none-clause-cause g c =
     let one : tree.domains ≡ domain ∷ [] = only_one _ domain c.requires.simple.one c.node-domain.ensures in
     let runs : IsRunnable domain = runnable tree domain one c.count.ensures.sound c.requires.simple in
     let start : CanRun domain.entries (g.F.Field.state c.save_all.new.field) × IsReady domain was (g.F.Field.state c.save_all.new.field) (domain.retry - 1) =
-    run_starts c.a_covered_domain_reaches_its_entries_alone.ensures tree domain was (g.F.Field.state c.begin.new.self) (g.F.Field.state c.save_all.new.field) c.items.result.now one runs
+    run_starts c.a_covered_domain_reaches_its_entries_alone.ensures.within tree domain was (g.F.Field.state c.begin.new.self) (g.F.Field.state c.save_all.new.field) c.items.result.now one runs
     c.requires.present c.requires.accepted c.requires.events c.in_ok-begin.ensures c.items.ensures.value c.in_ok-copies.ensures.told in
     let ends : EndsWith domain was (g.F.Field.state c.run_tries.new.field) c.in_ok-last.last.begins c.in_ok-last.last.found =
     c.in_ok-last.ensures was start.1 in
@@ -143,7 +143,7 @@ returns-clause-machine g c =
     let one : tree.domains ≡ domain ∷ [] = only_one _ domain c.requires.simple.one c.node-domain.ensures in
     let runs : IsRunnable domain = runnable tree domain one c.count.ensures.sound c.requires.simple in
     let start : CanRun domain.entries (g.F.Field.state c.save_all.new.field) × IsReady domain was (g.F.Field.state c.save_all.new.field) (domain.retry - 1) =
-    run_starts c.a_covered_domain_reaches_its_entries_alone.ensures tree domain was (g.F.Field.state c.begin.new.self) (g.F.Field.state c.save_all.new.field) c.items.result.now one runs
+    run_starts c.a_covered_domain_reaches_its_entries_alone.ensures.within tree domain was (g.F.Field.state c.begin.new.self) (g.F.Field.state c.save_all.new.field) c.items.result.now one runs
     c.requires.present c.requires.accepted c.requires.events c.in_ok-begin.ensures c.items.ensures.value c.in_ok-copies.ensures.told in
     let ends : EndsWith domain was (g.F.Field.state c.run_tries.new.field) c.in_ok-last.last.begins c.in_ok-last.last.found =
     c.in_ok-last.ensures was start.1 in
@@ -168,7 +168,7 @@ returns-clause-begins g c =
     let one : tree.domains ≡ domain ∷ [] = only_one _ domain c.requires.simple.one c.node-domain.ensures in
     let runs : IsRunnable domain = runnable tree domain one c.count.ensures.sound c.requires.simple in
     let start : CanRun domain.entries (g.F.Field.state c.save_all.new.field) × IsReady domain was (g.F.Field.state c.save_all.new.field) (domain.retry - 1) =
-    run_starts c.a_covered_domain_reaches_its_entries_alone.ensures tree domain was (g.F.Field.state c.begin.new.self) (g.F.Field.state c.save_all.new.field) c.items.result.now one runs
+    run_starts c.a_covered_domain_reaches_its_entries_alone.ensures.within tree domain was (g.F.Field.state c.begin.new.self) (g.F.Field.state c.save_all.new.field) c.items.result.now one runs
     c.requires.present c.requires.accepted c.requires.events c.in_ok-begin.ensures c.items.ensures.value c.in_ok-copies.ensures.told in
     let ends : EndsWith domain was (g.F.Field.state c.run_tries.new.field) c.in_ok-last.last.begins c.in_ok-last.last.found =
     c.in_ok-last.ensures was start.1 in
@@ -193,7 +193,7 @@ returns-clause-cause g c =
     let one : tree.domains ≡ domain ∷ [] = only_one _ domain c.requires.simple.one c.node-domain.ensures in
     let runs : IsRunnable domain = runnable tree domain one c.count.ensures.sound c.requires.simple in
     let start : CanRun domain.entries (g.F.Field.state c.save_all.new.field) × IsReady domain was (g.F.Field.state c.save_all.new.field) (domain.retry - 1) =
-    run_starts c.a_covered_domain_reaches_its_entries_alone.ensures tree domain was (g.F.Field.state c.begin.new.self) (g.F.Field.state c.save_all.new.field) c.items.result.now one runs
+    run_starts c.a_covered_domain_reaches_its_entries_alone.ensures.within tree domain was (g.F.Field.state c.begin.new.self) (g.F.Field.state c.save_all.new.field) c.items.result.now one runs
     c.requires.present c.requires.accepted c.requires.events c.in_ok-begin.ensures c.items.ensures.value c.in_ok-copies.ensures.told in
     let ends : EndsWith domain was (g.F.Field.state c.run_tries.new.field) c.in_ok-last.last.begins c.in_ok-last.last.found =
     c.in_ok-last.ensures was start.1 in
