@@ -48,6 +48,7 @@ abbrev pub united_from : Range → List Range → List Range
 united_from r [] = r ∷ []
 united_from r (s ∷ rest) = if is_before r s then r ∷ united_from s rest else united_from (hull r s) rest
 
+-- ranges by their beginnings, joined where they overlap or touch
 abbrev pub united : List Range → List Range
 united [] = []
 united (r ∷ rest) = united_from r rest

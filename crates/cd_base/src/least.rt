@@ -3,7 +3,7 @@ ghost use Rattle.cd_base.specs.Places.{IsLeast, IsOrdered, begins_before, ends_b
 
 use crate::{Place, Range};
 
-// The least place of two sets of ranges. Of the ranges that can have no such place the one that ends first is passed.
+// The least place that is in both sets. While the first ranges of the two are apart, the one that ends first is passed.
 pub(crate) fn first_common(mut first: &[Range], mut second: &[Range]) -> Option<Place>
     requires first { IsOrdered first.now }
     requires second { IsOrdered second.now }
@@ -22,7 +22,8 @@ pub(crate) fn first_common(mut first: &[Range], mut second: &[Range]) -> Option<
     }
 }
 
-// The least place of the second set that the first lacks.
+// The least place of the second set that the first lacks. Ranges that end before the second's begins, and ranges of the
+// second that lie in one of the first, are passed.
 pub(crate) fn first_lacking(mut first: &[Range], mut second: &[Range]) -> Option<Place>
     requires first { IsOrdered first.now }
     requires second { IsOrdered second.now }
@@ -55,12 +56,14 @@ pub(crate) fn parted(ranges: &[Range]) -> Option<(Range, &[Range])>
     }
 }
 
+// Whether a range ends where the other begins, or before.
 fn ends_before(range: Range, other: Range) -> bool
     ensures { result ≡ ends_before range other }
 {
     range.region < other.region || range.region == other.region && range.high <= other.low
 }
 
+// Whether a range begins before the other.
 pub(crate) fn begins_before(range: Range, other: Range) -> bool
     ensures { result ≡ begins_before range other }
 {

@@ -52,6 +52,7 @@ fn united_from<'a>(
     Ok(all)
 }
 
+// The range of two lists that begins first; of two that begin together that of the first list.
 fn earliest<'a>(first: &'a [Range], second: &'a [Range]) -> Option<Next<'a>>
     ensures { MatchOption result (by_start first.now second.now ≡ []) (λ next. by_start first.now second.now ≡ next.range ∷ by_start next.first.now next.second.now) }
 {
