@@ -28,3 +28,6 @@ pub mod DeclaredPaths
 pub mod Declarations
 mod WorkedChecks
 mod WorkedRefusals
+pub mod Differ
+pub mod Walk
+pub mod Apart

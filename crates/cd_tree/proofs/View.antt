@@ -98,13 +98,13 @@ names_children_later : (domains : List Domain) (at : ℕ) (ids : List NodeId) �
 names_children_later domains at [] fits = tt
 names_children_later domains at (id ∷ ids) (above, child, fits) = (above, names_children_later domains at ids fits)
 
-items_name_later : (domains : List Domain) (at : ℕ) (items : List Item) → FitsItems domains at items → GroupsNameLater at items
+pub items_name_later : (domains : List Domain) (at : ℕ) (items : List Item) → FitsItems domains at items → GroupsNameLater at items
 items_name_later domains at [] fits = tt
 items_name_later domains at (Run op ∷ items) (full, shape, fits) = items_name_later domains at items fits
 items_name_later domains at (Group ids ∷ items) (some, few, named, fits) =
     (names_children_later domains at ids named, items_name_later domains at items fits)
 
-fits_at : (kinds : List KindName) (all : List Domain) (at : ℕ) (domains : List Domain) (k : ℕ) (domain : Domain)
+pub fits_at : (kinds : List KindName) (all : List Domain) (at : ℕ) (domains : List Domain) (k : ℕ) (domain : Domain)
     → EachFits kinds all at domains → slice_get domains k ≡ Some domain → FitsDomain kinds all (at + k) domain
 fits_at kinds all at [] k domain fits is = absurd (cc)
 fits_at kinds all at (first ∷ domains) zero domain (here, fits) is =

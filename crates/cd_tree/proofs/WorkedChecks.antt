@@ -12,7 +12,7 @@ use Rattle.cd_tree.specs.declared.operation.Op.{Op}
 use Rattle.cd_tree.specs.declared.operation.Op.TheVariants.{Fill, Copy}
 use Rattle.cd_tree.specs.KindSets.{has_kind}
 use Rattle.cd_tree.specs.Domains.{Node, node_of, root_of, numbers_from}
-use Rattle.cd_tree.specs.Meaning.{node_writes, node_reach, clash, AreApart, IsDisjoint, IsCovered, uncovered}
+use Rattle.cd_tree.specs.Meaning.{node_writes, node_reach, clash, DoNotClash, IsDisjoint, IsCovered, uncovered}
 use Rattle.cd_tree.specs.Scripts.{path_of, declared_for}
 use Rattle.cd_tree.proofs.WorkedForms.{number, root, inner, part, copied}
 
@@ -114,7 +114,7 @@ apart_at (suc (suc (suc region))) index =
     rw (elsewhere 1 (suc (suc (suc region))) 0 4 index (omega arith), elsewhere 2 (suc (suc (suc region))) 0 4 index (omega arith))
 
 -- what both only read keeps them apart, and the program is disjoint
-sharing_apart : AreApart (node_at sharing 1) (node_at sharing 2)
+sharing_apart : DoNotClash (node_at sharing 1) (node_at sharing 2)
 sharing_apart p = apart_at p.region p.index
 
 sharing_disjoint : IsDisjoint (root_of sharing)

@@ -2,6 +2,7 @@ pub mod KindSets
 pub mod Operations
 pub mod Domains
 pub mod Outlines
+pub mod Parts
 pub mod Meaning
 pub mod Scripts
 pub mod Reading

@@ -80,12 +80,12 @@ abbrev mutual
 abbrev pub clash : Node → Node → PlaceSet
 clash one other p = (node_writes one p && node_reach other p) || (node_writes other p && node_reach one p)
 
-abbrev pub AreApart : Node → Node → Type 0
-AreApart one other = (p : Place) → clash one other p ≡ false
+abbrev pub DoNotClash : Node → Node → Type 0
+DoNotClash one other = (p : Place) → clash one other p ≡ false
 
 abbrev pub IsApartFrom : Node → Members → Type 0
 IsApartFrom one no_more = Unit {0}
-IsApartFrom one (member first rest) = AreApart one first × IsApartFrom one rest
+IsApartFrom one (member first rest) = DoNotClash one first × IsApartFrom one rest
 
 -- no two members of a group interfere
 abbrev pub MembersApart : Members → Type 0

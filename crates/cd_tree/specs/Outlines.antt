@@ -14,6 +14,10 @@ pub record Outline : Type 0 where
   pub kinds : List KindName
   pub domains : List Domain
 
+-- the same program with other names of kinds
+abbrev pub with_kinds : Outline → List KindName → Outline
+with_kinds tree kinds = record tree { kinds = kinds }
+
 -- each member of a group of domain `at` is a later domain, and has it as its parent
 abbrev pub NamesChildren : List Domain → ℕ → List NodeId → Type 0
 NamesChildren domains at [] = Unit {0}

@@ -1,4 +1,4 @@
-ghost use Rattle.std.specs.Prelude.{◌≡◌, ◌↔◌, ◌<◌, ◌^◌, IsTrue, bit_or, bit_and};
+ghost use Rattle.std.specs.Prelude.{◌≡◌, ◌↔◌, ◌<◌, ◌≤◌, ◌^◌, IsTrue, bit_or, bit_and};
 ghost use Rattle.cd_tree.specs.KindSets.{no_kinds, with_kind, has_kind};
 
 use cd_base::Text;
@@ -75,6 +75,14 @@ impl Kinds {
         ensures { result ≡ has_kind self kind }
     {
         kind.0 < 16 && (self.bits >> kind.0) % 2 == 1
+    }
+
+    /// Whether the set has none but the first `count` kinds.
+    pub(crate) fn are_below(self, count: usize) -> bool
+        requires { count ≤ 16 }
+        ensures { IsTrue result ↔ (self < 2 ^ count) }
+    {
+        u32::from(self.bits) < 1 << count
     }
 
     /// Whether the set is empty.

@@ -2,6 +2,7 @@
 //! them: what operations and domains compute, what the one-thread reading of a program and its script gives.
 #![tactic(auto)]
 
+mod check;
 mod document;
 mod domain;
 mod event;
@@ -10,13 +11,15 @@ pub mod laws;
 mod operation;
 mod path;
 mod refusal;
+#[cfg(test)]
+mod tests;
 mod tree;
 
 pub use document::{Document, Fault, RawFault, RawScript, Region, Regions, Script};
 pub use domain::{Domain, Entry, How, Item, NodeId};
 pub use event::{Begins, Cause, Event, Kept};
 pub use kinds::{Kind, KindName, Kinds};
-pub use operation::{Op, reads, writes};
+pub use operation::{Op, fits, is_full, reads, writes};
 pub use path::{find, path_text};
 pub use refusal::{Refusal, Refuse, Which};
 pub use tree::Tree;

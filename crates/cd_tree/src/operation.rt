@@ -1,5 +1,5 @@
-ghost use Rattle.std.specs.Prelude.{◌≡◌, slice_get};
-ghost use Rattle.cd_tree.specs.Operations.{op_reads, op_writes};
+ghost use Rattle.std.specs.Prelude.{◌≡◌, ◌↔◌, ◌<◌, ◌^◌, ◌∷◌, slice_get, IsTrue, All};
+ghost use Rattle.cd_tree.specs.Operations.{op_reads, op_writes, length_of, IsFull, AreApart, IsInStep, FitsShape};
 
 use cd_base::Range;
 
@@ -70,4 +70,78 @@ pub fn writes(op: &Op) -> Range
         | Op::Stencil(d, _, _, _, _)
         | Op::Spmv(d, _, _, _, _) => d,
     }
+}
+
+/// Whether each range of an operation has a place. It takes no memory.
+pub fn is_full(op: &Op) -> bool
+    ensures { IsTrue result ↔ All IsFull (op_writes op.now ∷ op_reads op.now) }
+{
+    match *op {
+        Op::Fill(d, _) => are_full(&[d]),
+        Op::Copy(d, x)
+        | Op::Scan(d, x)
+        | Op::Sum(d, x)
+        | Op::Max(d, x)
+        | Op::Stencil(d, _, _, _, x) => are_full(&[d, x]),
+        Op::Axpy(d, _, x) => are_full(&[d, d, x]),
+        Op::Add(d, x, z) | Op::Sub(d, x, z) | Op::Mul(d, x, z) | Op::Dot(d, x, z) => {
+            are_full(&[d, x, z])
+        }
+        Op::Spmv(d, s, c, v, x) => are_full(&[d, s, c, v, x]),
+    }
+}
+
+// Whether each range has a place.
+fn are_full(ranges: &[Range]) -> bool
+    ensures { IsTrue result ↔ All IsFull ranges.now }
+{
+    ranges.iter().all(|range| range.low < range.high)
+}
+
+/// Whether an operation has the lengths and ranges that it must have. It takes no memory.
+pub fn fits(op: &Op) -> bool
+    ensures { IsTrue result ↔ FitsShape op.now }
+{
+    match *op {
+        Op::Fill(..) => true,
+        Op::Copy(d, x) | Op::Axpy(d, _, x) | Op::Scan(d, x) => is_in_step(d, x),
+        Op::Add(d, x, z) | Op::Sub(d, x, z) | Op::Mul(d, x, z) => {
+            is_in_step(d, x) && is_in_step(d, z)
+        }
+        Op::Sum(d, x) | Op::Max(d, x) => words_in(d) == 1 && are_apart(d, x),
+        Op::Dot(d, x, z) => {
+            words_in(d) == 1 && words_in(x) == words_in(z) && are_apart(d, x) && are_apart(d, z)
+        }
+        Op::Stencil(d, _, _, _, x) => words_in(x) == words_in(d) + 2 && are_apart(d, x),
+        Op::Spmv(d, s, c, v, x) => {
+            words_in(s) == words_in(d) + 1
+                && words_in(c) == words_in(v)
+                && are_apart(d, s)
+                && are_apart(d, c)
+                && are_apart(d, v)
+                && are_apart(d, x)
+        }
+    }
+}
+
+// Whether a source has the destination's length, and is the destination itself or apart from it.
+fn is_in_step(d: Range, x: Range) -> bool
+    ensures { IsTrue result ↔ IsInStep d x }
+{
+    words_in(x) == words_in(d) && (x == d || are_apart(d, x))
+}
+
+// Whether two ranges have no common place.
+fn are_apart(r: Range, s: Range) -> bool
+    ensures { IsTrue result ↔ AreApart r s }
+{
+    r.region != s.region || r.high.min(s.high) <= r.low.max(s.low)
+}
+
+// The number of words of a range.
+fn words_in(range: Range) -> u64
+    ensures value { result ≡ length_of range }
+    ensures few { result < 2 ^ 32 }
+{
+    u64::from(range.high.saturating_sub(range.low))
 }

@@ -1,5 +1,6 @@
-ghost use Rattle.std.specs.Prelude.{◌≡◌, ◌<◌, ◌^◌, length, slice_get, Some};
+ghost use Rattle.std.specs.Prelude.{◌≡◌, ◌<◌, ◌^◌, length, slice_get, Some, MatchOption};
 
+use crate::check::is_tree;
 use crate::{Domain, KindName, NodeId};
 use cd_base::Items;
 use std::marker::Model;
@@ -31,6 +32,16 @@ impl Tree {
         ensures domains { result.domains ≡ domains }
     {
         Tree { kinds, domains }
+    }
+
+    /// The tree of a list of domains, where it is a program's. None exactly where it is none. It takes no memory.
+    pub fn checked(kinds: Items<KindName>, domains: Items<Domain>) -> Option<Tree>
+        ensures { MatchOption result (IsTree (record { kinds = kinds; domains = domains }) → ⊥) (λ tree. (tree.kinds ≡ kinds) × (tree.domains ≡ domains)) }
+    {
+        if !is_tree(kinds.items(), domains.items()) {
+            return None;
+        }
+        Some(Tree { kinds, domains })
     }
 
     /// The names of the kinds, in the order of declaration. It takes no memory.

@@ -1,0 +1,32 @@
+use Rattle.std.proofs.Common.{ℕ, ◌+◌, ◌*◌, Option, drop}
+use Rattle.cd_tree.specs.Domains.{node_of, members_by, body_by, body_numbers, member_numbers, body_depth, members_depth}
+use Rattle.cd_tree.specs.Parts.{WalkGives}
+use Rattle.cd_tree.proofs.check.+walk.Given as goal
+
+-- a domain takes a level, and what it has in it is smaller in this order: items, one item, members, one domain
+abbrev pub decreases-walk_domain : goal.decreases-walk_domain
+decreases-walk_domain l = 4 * l.levels
+
+abbrev pub decreases-walk_item : goal.decreases-walk_item
+decreases-walk_item l = 4 * l.levels + 2
+
+abbrev pub decreases-walk_items : goal.decreases-walk_items
+decreases-walk_items l = 4 * l.levels + 3
+
+abbrev pub decreases-walk_members : goal.decreases-walk_members
+decreases-walk_members l = 4 * l.levels + 1
+
+-- what the walk over the rest answers is the answer for all
+abbrev pub invariant-walk_items-loop-item : goal.invariant-walk_items-loop-item
+invariant-walk_items-loop-item l =
+    let find = node_of l.domains in
+    (end : Option ℕ)
+    → WalkGives (body_numbers (body_by find (drop l.item-index l.items))) (body_depth (body_by find (drop l.item-index l.items))) l.next l.levels end
+    → WalkGives (body_numbers (body_by find l.items)) (body_depth (body_by find l.items)) l.fn.at l.levels end
+
+abbrev pub invariant-walk_members-loop-id : goal.invariant-walk_members-loop-id
+invariant-walk_members-loop-id l =
+    let find = node_of l.domains in
+    (end : Option ℕ)
+    → WalkGives (member_numbers (members_by find (drop l.id-index l.ids))) (members_depth (members_by find (drop l.id-index l.ids))) l.next l.levels end
+    → WalkGives (member_numbers (members_by find l.ids)) (members_depth (members_by find l.ids)) l.fn.at l.levels end
