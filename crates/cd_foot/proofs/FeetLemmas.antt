@@ -1,0 +1,80 @@
+-- Footprints, one domain after another, from the last to the first.
+use Rattle.std.proofs.Common.{◌≡◌, ◌≢◌, ℕ, zero, suc, ◌+◌, ◌<◌, ◌≤◌, ◌||◌, Bool, List, [], ◌∷◌, length, set, Some, slice_get, refl, sym, ap, subst, ◌∙◌, inl, inr, arith}
+use Rattle.std.proofs.lemmas.Bool.{cases_eq}
+use Rattle.std.proofs.lemmas.List.{length-set}
+use Rattle.std.proofs.lemmas.Option.{slice_get_within}
+use Rattle.cd_base.specs.declared.place.Place.{Place}
+use Rattle.cd_base.specs.declared.place.Range.{Range}
+use Rattle.cd_base.specs.Words.{in_ranges}
+use Rattle.cd_tree.specs.declared.domain.NodeId.{NodeId}
+use Rattle.cd_tree.specs.declared.domain.Domain.{Domain}
+use Rattle.cd_tree.specs.Domains.{Node, node_of}
+use Rattle.cd_tree.specs.Meaning.{node_reads}
+use Rattle.cd_foot.specs.declared.footprints.Foot.{Foot}
+use Rattle.cd_foot.specs.declared.gathered.Side.TheVariants.{Reads, Writes}
+use Rattle.cd_foot.specs.Feet.{AreFeet}
+use Rattle.cd_foot.specs.Gathered.{IsSide, IsSmallFoot, AreFeetFrom}
+
+slice_get-set_same : {X : Type 0} (xs : List X) (i : ℕ) (y : X) → i < length xs → slice_get (set xs i y) i ≡ Some y
+slice_get-set_same [] i y within = absurd (omega arith)
+slice_get-set_same (x ∷ xs) zero y within = refl
+slice_get-set_same (x ∷ xs) (suc i) y within = slice_get-set_same xs i y (omega arith)
+
+slice_get-set_other : {X : Type 0} (xs : List X) (i j : ℕ) (y : X) → j ≢ i → slice_get (set xs i y) j ≡ slice_get xs j
+slice_get-set_other [] i j y other = refl
+slice_get-set_other (x ∷ xs) zero zero y other = absurd (other refl)
+slice_get-set_other (x ∷ xs) zero (suc j) y other = refl
+slice_get-set_other (x ∷ xs) (suc i) zero y other = refl
+slice_get-set_other (x ∷ xs) (suc i) (suc j) y other = slice_get-set_other xs i j y (λ same. other (ap suc same))
+
+-- both sets and their union
+pub small_foot : (domains : List Domain) (d : Node) (reads writes copy reach : List Range)
+    → IsSide Reads domains d reads → IsSide Writes domains d writes → copy ≡ reads
+    → ((p : Place) → in_ranges reach p ≡ (in_ranges copy p || in_ranges writes p))
+    → IsSmallFoot domains d (record { reads = reads; writes = writes; reach = reach })
+small_foot domains d reads writes copy reach one other same both = record {
+  sets = record {
+    reads = one.places;
+    writes = other.places;
+    reach = λ p. both p ∙ ap (λ (rs : List Range). in_ranges rs p || in_ranges writes p) same ∙ ap (λ (b : Bool). b || in_ranges writes p) (one.places p) ∙ ap (λ (b : Bool). node_reads d p || b) (other.places p);
+  };
+  few_reads = one.few;
+  few_writes = other.few;
+}
+
+-- one domain more
+pub feet_more : (at next : ℕ) (id : NodeId) (domains : List Domain) (feet new : List Foot) (foot : Foot) → id.0 ≡ at → next ≡ at + 1
+    → next ≤ length domains → AreFeetFrom next domains feet → new ≡ set feet at foot
+    → ((d : Node) → node_of domains id ≡ Some d → IsSmallFoot domains d foot) → AreFeetFrom at domains new
+feet_more at next id domains feet new foot here step within behind is small =
+    let room : at < length feet = (let size = behind.size in omega (arith, size)) in
+    let each : (k : NodeId) (d : Node) (f : Foot) → at ≤ k.0 → node_of domains k ≡ Some d → slice_get (set feet at foot) k.0 ≡ Some f → IsSmallFoot domains d f =
+    λ k d f from found there.
+    elim (cases_eq k.0 at) [
+      | inl same ↦
+          (let make : ℕ → NodeId = λ n. record { 0 = n } in
+          let one : k ≡ id = ap make (same ∙ sym here) in
+          let mine : slice_get (set feet at foot) k.0 ≡ Some foot = ap (slice_get (set feet at foot)) same ∙ slice_get-set_same feet at foot room in
+          let equal : foot ≡ f = cc in
+          subst (λ (g : Foot). IsSmallFoot domains d g) equal (small d (ap (node_of domains) (sym one) ∙ found)))
+      | inr other ↦
+          behind.each k d f (omega arith) found (sym (slice_get-set_other feet at k.0 foot other) ∙ there)
+    ] in
+    subst (λ (fs : List Foot). AreFeetFrom at domains fs) (sym is) (record {
+      size = length-set feet at foot ∙ behind.size;
+      each = each;
+    })
+
+-- none yet
+pub feet_none : (domains : List Domain) (feet : List Foot) → length feet ≡ length domains → AreFeetFrom (length domains) domains feet
+feet_none domains feet size = record {
+  size = size;
+  each = λ k d f from found there. (let within = slice_get_within feet k.0 f there in absurd (omega (arith, within, size)));
+}
+
+-- all of them
+pub feet_all : (domains : List Domain) (feet : List Foot) → AreFeetFrom 0 domains feet → AreFeet domains feet
+feet_all domains feet all = record {
+  size = all.size;
+  each = λ id d foot found there. (all.each id d foot (omega arith) found there).sets;
+}

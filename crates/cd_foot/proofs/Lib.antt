@@ -1,0 +1,6 @@
+pub mod FeetLemmas
+pub mod GatherLemmas
+pub mod OverlapLemmas
+pub mod TreeLemmas
+pub mod SideLemmas
+mod Worked

@@ -1,0 +1,6 @@
+pub mod Feet
+pub mod Gathered
+pub mod Laws
+pub mod Overlaps
+pub mod Samples
+pub mod Siblings

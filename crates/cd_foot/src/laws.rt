@@ -1,0 +1,8 @@
+//! The law of overlaps, the contract of a function that does nothing: to call it is to have the law.
+
+ghost use Rattle.cd_foot.specs.Laws.{KindsChangeNoOverlap};
+
+/// Which kinds a document names, and which of them halt, changes nothing for siblings.
+pub fn the_names_of_kinds_change_no_overlap()
+    ensures { KindsChangeNoOverlap }
+{}

@@ -1,0 +1,71 @@
+ghost use Rattle.std.specs.Prelude.{◌≡◌, ◌<◌, ◌+◌, ◌^◌, length, Some, IfOk};
+ghost use Rattle.cd_tree.specs.Outlines.{IsTree};
+ghost use Rattle.cd_tree.specs.Domains.{node_of};
+ghost use Rattle.cd_tree.specs.Laws.{NestedViewFollows};
+ghost use Rattle.cd_foot.specs.Gathered.{IsSide, IsSmallFoot, AreFeetFrom};
+
+use crate::Foot;
+use crate::gathered::{Side, gathered};
+use cd_base::{NoMemory, Places};
+use cd_tree::{NodeId, Tree};
+use std::alloc::Global;
+
+/// As many footprints without a place.
+pub(crate) fn no_feet(alloc: Global, count: u32) -> Result<Vec<Foot>, NoMemory>
+    ensures { IfOk result (λ feet. length feet.items ≡ count) }
+{
+    let mut feet = Vec::new(alloc);
+    for _ in 0..count {
+        feet.push(Foot {
+            reads: Places::new(alloc),
+            writes: Places::new(alloc),
+            reach: Places::new(alloc),
+        })?;
+    }
+    Ok(feet)
+}
+
+/// The footprint of a domain, by those of the domains behind it.
+pub(crate) fn foot_of(
+    alloc: Global,
+    tree: &Tree,
+    node: NodeId,
+    feet: &[Foot],
+) -> Result<Foot, NoMemory>
+    requires tree { IsTree tree.now }
+    requires views { NestedViewFollows }
+    requires node { node.0 < length tree.now.domains }
+    requires behind { AreFeetFrom (node.0 + 1) tree.now.domains feet.now }
+    ensures { IfOk result (λ foot. (d : _) → node_of tree.now.domains node ≡ Some d → IsSmallFoot tree.now.domains d foot) }
+{
+    let reads = side_of(alloc, Side::Reads, tree, node, feet)?;
+    let writes = side_of(alloc, Side::Writes, tree, node, feet)?;
+    let mut reach = reads.try_clone(alloc)?;
+    reach.union(&writes)?;
+    Ok(Foot {
+        reads,
+        writes,
+        reach,
+    })
+}
+
+// One set of a domain's footprint.
+fn side_of(
+    alloc: Global,
+    side: Side,
+    tree: &Tree,
+    node: NodeId,
+    feet: &[Foot],
+) -> Result<Places, NoMemory>
+    requires tree { IsTree tree.now }
+    requires views { NestedViewFollows }
+    requires node { node.0 < length tree.now.domains }
+    requires behind { AreFeetFrom (node.0 + 1) tree.now.domains feet.now }
+    ensures side { IfOk result (λ set. (d : _) → node_of tree.now.domains node ≡ Some d → IsSide side tree.now.domains d set) }
+    ensures small { IfOk result (λ set. length set < 2 ^ 31) }
+{
+    let domain = tree.node(node);
+    let ranges = gathered(alloc, side, domain, feet)?;
+    let set = Places::of(alloc, ranges.as_slice())?;
+    Ok(set)
+}
