@@ -1,0 +1,92 @@
+-- The domains of a program, each by its number: that it is there, what its view is, and what fits it.
+use Rattle.std.proofs.Common.{◌≡◌, ℕ, zero, suc, ◌+◌, ◌<◌, ◌==◌, ◌||◌, List, [], ◌∷◌, ◌++◌, map, take, Option, None, Some, IsSomeAnd, All, length, slice_get, get_or, refl, sym, ap, ◌∙◌, subst, zero-add, arith}
+use Rattle.std.specs.List.{list_any}
+use Rattle.std.proofs.lemmas.List.{take_more, map_push}
+use Rattle.std.proofs.lemmas.List.Elements.{All-nil, All-cons}
+use Rattle.std.proofs.lemmas.Option.{slice_get_within, get_or_from_slice_get}
+use Rattle.cd_tree.specs.declared.domain.NodeId.{NodeId}
+use Rattle.cd_tree.specs.declared.domain.Domain.{Domain}
+use Rattle.cd_tree.specs.declared.kinds.KindName.{KindName}
+use Rattle.cd_tree.specs.Outlines.{Outline, IsTree, FitsDomain, EachFits, NamesChildren}
+use Rattle.cd_tree.specs.Domains.{Node, Members, members_by, put_first, nodes_from, node_of, number_of}
+use Rattle.cd_cover.specs.Links.{has_member}
+
+pub some_of : {A : Type 0} (o : Option A) (P : A → Type 0) → IsSomeAnd o P → (x : A) × (o ≡ Some x) × P x
+some_of None P h = absurd h
+some_of (Some x) P h = (x, refl, h)
+
+pub some_and : {A : Type 0} (o : Option A) (P : A → Type 0) (x : A) → o ≡ Some x → P x → IsSomeAnd o P
+some_and o P x is h = subst (λ p. IsSomeAnd p P) (sym is) h
+
+-- one element more of a list that is mapped from the front on
+pub map_more : {A B : Type 0} (f : A → B) (xs : List A) (k : ℕ) (x : A) → slice_get xs k ≡ Some x → (so more : List B) (y : B)
+    → y ≡ f x → so ≡ map f (take k xs) → more ≡ so ++ y ∷ [] → more ≡ map f (take (k + 1) xs)
+map_more f xs k x there so more y value front is =
+    let within : k < length xs = slice_get_within xs k x there in
+    let last : get_or xs k x ≡ x = get_or_from_slice_get xs k x x there in
+    let grown : take (k + 1) xs ≡ take k xs ++ x ∷ [] = take_more xs k x within ∙ ap (λ z. take k xs ++ z ∷ []) last in
+    is ∙ ap (λ zs. zs ++ y ∷ []) front ∙ ap (λ z. map f (take k xs) ++ z ∷ []) value ∙ sym (ap (map f) grown ∙ map_push f (take k xs) x)
+
+-- a domain that is there has a view of its number
+view_at : (at : ℕ) (domains : List Domain) (k : ℕ) (domain : Domain) → slice_get domains k ≡ Some domain
+    → IsSomeAnd (slice_get (nodes_from at domains) k) (λ d. number_of d ≡ at + k)
+view_at at [] k domain there = absurd (cc)
+view_at at (first ∷ rest) zero domain there = omega arith
+view_at at (first ∷ rest) (suc k) domain there =
+    let sum : at + suc k ≡ suc at + k = omega arith in
+    rw sum (view_at (suc at) rest k domain there)
+
+pub view_number : (domains : List Domain) (id : NodeId) (domain : Domain) → slice_get domains id.0 ≡ Some domain
+    → IsSomeAnd (node_of domains id) (λ d. number_of d ≡ id.0)
+view_number domains id domain there =
+    subst (λ n. IsSomeAnd (node_of domains id) (λ d. number_of d ≡ n)) (zero-add id.0) (view_at 0 domains id.0 domain there)
+
+pub length-nodes_from : (at : ℕ) (domains : List Domain) → length (nodes_from at domains) ≡ length domains
+length-nodes_from at [] = refl
+length-nodes_from at (first ∷ rest) = ap suc (length-nodes_from (suc at) rest)
+
+-- the domain of a number in the list
+pub domain_here : (domains : List Domain) (n : ℕ) → n < length domains → (domain : Domain) × (slice_get domains n ≡ Some domain)
+domain_here [] n within = absurd (omega arith)
+domain_here (first ∷ rest) zero within = (first, refl)
+domain_here (first ∷ rest) (suc n) within = domain_here rest n (omega arith)
+
+-- each domain of a program fits
+fits_at : (kinds : List KindName) (all : List Domain) (at : ℕ) (domains : List Domain) (k : ℕ) (domain : Domain)
+    → EachFits kinds all at domains → slice_get domains k ≡ Some domain → FitsDomain kinds all (at + k) domain
+fits_at kinds all at [] k domain each there = absurd (cc)
+fits_at kinds all at (first ∷ rest) zero domain (here, each) there =
+    let same : first ≡ domain = cc in
+    let sum : at + 0 ≡ at = omega arith in
+    rw (sum, ← same) here
+fits_at kinds all at (first ∷ rest) (suc k) domain (here, each) there =
+    let sum : at + suc k ≡ suc at + k = omega arith in
+    rw sum (fits_at kinds all (suc at) rest k domain each there)
+
+pub tree_fits : (tree : Outline) → IsTree tree → (id : NodeId) (domain : Domain) → slice_get tree.domains id.0 ≡ Some domain
+    → FitsDomain tree.kinds tree.domains id.0 domain
+tree_fits tree is id domain there =
+    subst (λ n. FitsDomain tree.kinds tree.domains n domain) (zero-add id.0)
+    (fits_at tree.kinds tree.domains 0 tree.domains id.0 domain is.each there)
+
+-- the members that a group names are there
+pub members_here : (domains : List Domain) (at : ℕ) (ids : List NodeId) → NamesChildren domains at ids
+    → All (λ (id : NodeId). id.0 < length domains) ids
+members_here domains at [] named = All-nil (λ (id : NodeId). id.0 < length domains)
+members_here domains at (id ∷ ids) (above, child, named) =
+    let found = some_of (slice_get domains id.0) (λ d. d.parent ≡ Some (record { 0 = at })) child in
+    All-cons (λ (i : NodeId). i.0 < length domains) id ids (slice_get_within domains id.0 found.0 found.1) (members_here domains at ids named)
+
+has_member-put_first : (n m : ℕ) (found : Option Node) (rest : Members) → IsSomeAnd found (λ d. number_of d ≡ m)
+    → has_member n (put_first found rest) ≡ ((m == n) || has_member n rest)
+has_member-put_first n m None rest is = absurd is
+has_member-put_first n m (Some d) rest is = rw is
+
+-- a group has the members that it names
+pub has_member-members_by : (domains : List Domain) (at n : ℕ) (ids : List NodeId) → NamesChildren domains at ids
+    → has_member n (members_by (node_of domains) ids) ≡ list_any (λ m. m.0 == n) ids
+has_member-members_by domains at n [] named = refl
+has_member-members_by domains at n (id ∷ ids) (above, child, named) =
+    let found = some_of (slice_get domains id.0) (λ d. d.parent ≡ Some (record { 0 = at })) child in
+    has_member-put_first n id.0 (node_of domains id) (members_by (node_of domains) ids) (view_number domains id found.0 found.1)
+    ∙ ap (λ b. (id.0 == n) || b) (has_member-members_by domains at n ids named)

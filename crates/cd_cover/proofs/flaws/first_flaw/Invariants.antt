@@ -1,0 +1,7 @@
+use Rattle.std.proofs.Common.{drop}
+use Rattle.cd_tree.specs.Domains.{nodes_from}
+use Rattle.cd_cover.proofs.FirstLemmas.{DomainsLeft}
+use Rattle.cd_cover.proofs.flaws.first_flaw.Given as goal
+
+abbrev pub invariant-loop-k : goal.invariant-loop-k
+invariant-loop-k l = DomainsLeft l.tree.domains (drop l.k (nodes_from 0 l.tree.domains)) (nodes_from 0 l.tree.domains)

@@ -1,0 +1,9 @@
+pub mod Links
+pub mod Outer
+pub mod Checks
+pub mod Plans
+pub mod Least
+pub mod Laws
+pub mod Seeking
+pub mod Needs
+pub mod Results
