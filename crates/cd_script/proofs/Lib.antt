@@ -1,0 +1,7 @@
+mod Worked
+pub mod Results
+pub mod Views
+pub mod Declared
+pub mod Striking
+pub mod Progress
+pub mod OneAnswer
