@@ -1,0 +1,22 @@
+//! Preserved words behind passes: the trait that says what each call does to a pass, and the first pass, which keeps
+//! copies behind shared pointers.
+//!
+//! Contracts see a pass as one record, and each call's clause is one equation between the record after the call and the
+//! record before it, so what an equation does not name stays.
+#![tactic(auto)]
+
+mod arc_pass;
+mod gone_note;
+mod keep_id;
+mod layer;
+mod layers;
+mod pass;
+mod pieces;
+
+pub use arc_pass::ArcPass;
+pub use gone_note::GoneNote;
+pub use keep_id::KeepId;
+pub use pass::Pass;
+
+#[cfg(test)]
+mod tests;
