@@ -1,0 +1,7 @@
+pub mod Places
+pub mod Written
+pub mod Sums
+pub mod Steady
+pub mod Turns
+pub mod Rows
+pub mod Boards

@@ -1,0 +1,89 @@
+-- An operation that writes its destination word by word.
+use Rattle.std.proofs.Common.{◌≡◌, ◌≢◌, ℕ, ◌+◌, ◌-◌, ◌<◌, ◌≤◌, Bool, true, false, cond, Some, arith, refl, ap, sym, ◌∙◌, if◌then◌else◌, inl, inr}
+use Rattle.std.proofs.Math.Path.{fun_ext}
+use Rattle.cd_base.specs.declared.place.Place.{Place}
+use Rattle.cd_base.specs.declared.place.Range.{Range}
+use Rattle.cd_base.specs.Words.{Words, in_range, same_place, put}
+use Rattle.cd_tree.specs.declared.operation.Op.{Op}
+use Rattle.cd_tree.specs.Operations.{column, op_meaning, op_writes, length_of, IsFull, IsInStep}
+use Rattle.cd_kernel.specs.Computing.{nth_place}
+use Rattle.cd_kernel.proofs.Places.{Inside, inside_from, inside_to, same_from, same_to, by_test, not_true, same_test}
+
+-- the first n places of a range
+abbrev pub first_of : Range → ℕ → Range
+first_of r n = record { region = r.region; low = r.low; high = r.low + n }
+
+-- the words where the first n words of the destination are written
+abbrev pub words_to : Op → Words → ℕ → Words
+words_to op w n = λ p. if in_range (first_of (op_writes op) n) p then Some (column op w (p.index - (op_writes op).low)) else w p
+
+-- where a test is known, the choice is made
+pub chosen : {A : Type 0} (b : Bool) (x y : A) → b ≡ true → cond b x y ≡ x
+chosen {A} b x y e = rw e refl
+
+pub other : {A : Type 0} (b : Bool) (x y : A) → b ≡ false → cond b x y ≡ y
+other {A} b x y e = rw e refl
+
+pub none_written : (op : Op) (w : Words) → words_to op w 0 ≡ w
+none_written op w = fun_ext (λ p.
+    other (in_range (first_of (op_writes op) 0) p) _ _
+    (not_true _ (λ t. let h : Inside (first_of (op_writes op) 0) p = inside_from _ _ t in
+    let low : (op_writes op).low ≤ p.index = h.low in let high : p.index < (op_writes op).low + 0 = h.high in omega arith)))
+
+one_more : (op : Op) (w : Words) (n : ℕ) (q : Place)
+    → put (words_to op w n) (nth_place (op_writes op) n) (column op w n) q ≡ words_to op w (n + 1) q
+one_more op w n q =
+    let d : Range = op_writes op in
+    let p : Place = nth_place d n in
+    by_test (same_place p q)
+    (λ t. let same : (d.region ≡ q.region) × (d.low + n ≡ q.index) = same_from p q t in
+    let inside : in_range (first_of d (n + 1)) q ≡ true =
+    inside_to (first_of d (n + 1)) q (record { region = same.0; low = omega arith; high = omega arith }) in
+    let index : q.index - d.low ≡ n = omega arith in
+    chosen (same_place p q) (Some (column op w n)) (words_to op w n q) t
+    ∙ ap (λ (i : ℕ). Some (column op w i)) (sym index)
+    ∙ sym (chosen (in_range (first_of d (n + 1)) q) (Some (column op w (q.index - d.low))) (w q) inside))
+    (λ f. let tests : in_range (first_of d n) q ≡ in_range (first_of d (n + 1)) q =
+    same_test _ _
+    (λ t. let h : Inside (first_of d n) q = inside_from _ _ t in
+    let high : q.index < d.low + n = h.high in
+    inside_to (first_of d (n + 1)) q (record { region = h.region; low = h.low; high = omega arith }))
+    (λ t. let h : Inside (first_of d (n + 1)) q = inside_from _ _ t in
+    let high : q.index < d.low + (n + 1) = h.high in
+    let low : d.low ≤ q.index = h.low in
+    let apart : d.low + n ≢ q.index = λ e. let s : same_place p q ≡ true = same_to p q h.region e in cc in
+    inside_to (first_of d n) q (record { region = h.region; low = h.low; high = omega arith })) in
+    other (same_place p q) (Some (column op w n)) (words_to op w n q) f
+    ∙ ap (λ (b : Bool). cond b (Some (column op w (q.index - d.low))) (w q)) tests)
+
+-- the word after the first n is written
+pub next_written : (op : Op) (w : Words) (n : ℕ)
+    → put (words_to op w n) (nth_place (op_writes op) n) (column op w n) ≡ words_to op w (n + 1)
+next_written op w n = fun_ext (λ q. one_more op w n q)
+
+-- with all words written, the operation is done
+pub all_written : (op : Op) (w : Words) → IsFull (op_writes op) → words_to op w (length_of (op_writes op)) ≡ op_meaning op w
+all_written op w full =
+    let d : Range = op_writes op in
+    let ends : d.low + (d.high - d.low) ≡ d.high = omega (arith, full) in
+    ap (λ (high : ℕ). λ (p : Place). if in_range (record { region = d.region; low = d.low; high = high }) p then Some (column op w (p.index - d.low)) else w p) ends
+
+-- a source word that is still to be read is as it was
+pub still_there : (op : Op) (w : Words) (x : Range) (n i : ℕ) → IsInStep (op_writes op) x → n ≤ i → i < length_of (op_writes op)
+    → words_to op w n (nth_place x i) ≡ w (nth_place x i)
+still_there op w x n i step ahead short =
+    let d : Range = op_writes op in
+    let p : Place = nth_place x i in
+    other (in_range (first_of d n) p) _ _ (not_true _ (λ t.
+    let h : Inside (first_of d n) p = inside_from _ _ t in
+    let high : x.low + i < d.low + n = h.high in
+    let low : d.low ≤ x.low + i = h.low in
+    elim step.1 [
+      | inl same ↦ let e : x.low ≡ d.low = ap (λ (r : Range). r.low) same in omega arith
+      | inr apart ↦
+          let long : x.high - x.low ≡ d.high - d.low = step.0 in
+          let in_d : in_range d p ≡ true = inside_to d p (record { region = h.region; low = low; high = omega (arith, high) }) in
+          let in_x : in_range x p ≡ true = inside_to x p (record { region = refl; low = omega arith; high = omega arith }) in
+          let out : in_range x p ≡ false = apart p in_d in
+          cc
+    ]))

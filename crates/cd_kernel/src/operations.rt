@@ -1,0 +1,53 @@
+ghost use Rattle.std.specs.Prelude.{◌≡◌, ◌∷◌, [], All};
+ghost use Rattle.cd_tree.specs.Operations.{op_reads, op_writes, FitsShape, IsFull, IsInStep};
+ghost use Rattle.cd_tree.specs.declared.operation.Op.TheVariants.{Scan};
+ghost use Rattle.cd_field.specs.Machine.{ArePresent};
+ghost use Rattle.cd_kernel.specs.Computing.{computed, IsDirect};
+
+use crate::columns::column_word;
+use crate::words::{read_nth, write_nth};
+use cd_base::Range;
+use cd_field::Field;
+use cd_tree::{Op, writes};
+
+/// Runs an operation. Record, notes, lost places and all words outside the destination stay. It takes no memory.
+pub fn apply<F: Field>(op: &Op, field: &mut F)
+    requires full { All IsFull (op_writes op.now ∷ op_reads op.now) }
+    requires shape { FitsShape op.now }
+    requires present { ArePresent (F.state field.old) (op_writes op.now ∷ op_reads op.now) }
+    ensures { F.state field.new ≡ computed (F.state field.old) op.now }
+{
+    match *op {
+        Op::Scan(d, x) => scan(d, x, field),
+        _ => write_columns(op, field),
+    }
+}
+
+// Any operation but `scan`: each word of the destination from the words before.
+fn write_columns<F: Field>(op: &Op, field: &mut F)
+    requires direct { IsDirect op.now }
+    requires full { All IsFull (op_writes op.now ∷ op_reads op.now) }
+    requires shape { FitsShape op.now }
+    requires present { ArePresent (F.state field.old) (op_writes op.now ∷ op_reads op.now) }
+    ensures { F.state field.new ≡ computed (F.state field.old) op.now }
+{
+    let d = writes(op);
+    for i in 0..d.high - d.low {
+        let word = column_word(op, i, field);
+        write_nth(d, i, word, field);
+    }
+}
+
+// The sums of the source's words from its first up to each. In place too: the sum is kept, and no written word is read.
+fn scan<F: Field>(d: Range, x: Range, field: &mut F)
+    requires full { All IsFull (d ∷ x ∷ []) }
+    requires shape { IsInStep d x }
+    requires present { ArePresent (F.state field.old) (d ∷ x ∷ []) }
+    ensures { F.state field.new ≡ computed (F.state field.old) (Scan d x) }
+{
+    let mut sum = 0u64;
+    for i in 0..d.high - d.low {
+        sum = sum.wrapping_add(read_nth(x, i, field));
+        write_nth(d, i, sum, field);
+    }
+}

@@ -1,0 +1,339 @@
+ghost use Rattle.std.specs.Prelude.{◌≡◌, ◌+◌, ◌<◌, ◌≤◌, ◌∷◌, [], true, All, IfOk, OnOk, IsSome, IsTrue};
+ghost use Rattle.cd_base.specs.Words.{in_range};
+ghost use Rattle.cd_tree.specs.Meaning.{initial};
+ghost use Rattle.cd_tree.specs.Operations.{op_reads, op_writes, length_of, FitsShape, IsFull, IsInStep, AreApart};
+ghost use Rattle.cd_kernel.specs.Board.{board, HasBoard, IsOnBoard};
+
+use crate::apply;
+use cd_base::{Items, Pattern, Place, Range, Text};
+use cd_field::{Field, MapField};
+use cd_tree::{Op, Region, Regions, writes};
+use std::alloc::Global;
+use std::process::Abort;
+use std::test::Fail;
+
+const COUNT: u32 = 64;
+
+const LARGEST: u64 = u64::MAX;
+
+fn part(low: u32, high: u32) -> Range {
+    Range {
+        region: 0,
+        low,
+        high,
+    }
+}
+
+fn one_region(alloc: Global) -> Result<Regions, Fail>
+    ensures { IfOk result (λ regions. (p : _) → in_range board p ≡ true → IsSome (initial regions p)) }
+{
+    let mut regions = Items::new(alloc);
+    regions.push(Region {
+        name: Text::of(alloc, "board")?,
+        length: COUNT,
+        pattern: Pattern::Const(0),
+    })?;
+    Ok(regions)
+}
+
+// A machine whose words all are 0.
+fn load_board<F: Field>(alloc: Global, field: &mut F) -> Result<(), Fail>
+    ensures { OnOk result (HasBoard (F.state field.new)) }
+{
+    field.load(&one_region(alloc)?, &Items::new(alloc))?;
+    Ok(())
+}
+
+// Words from an index on, in place of those that stand there.
+fn put<F: Field>(rt: &impl Abort, field: &mut F, low: u32, words: &[u64])
+    requires { HasBoard (F.state field.old) }
+    ensures { HasBoard (F.state field.new) }
+{
+    let mut index = low;
+    for word in words {
+        assert!(rt; index < COUNT);
+        field.write(Place { region: 0, index }, *word);
+        index += 1;
+    }
+}
+
+// The words from an index on are these.
+fn expect_words<F: Field>(rt: &impl Abort, field: &F, low: u32, words: &[u64])
+    requires { HasBoard (F.state field.now) }
+{
+    let mut index = low;
+    for word in words {
+        assert!(rt; index < COUNT);
+        assert_eq!(rt;
+            field.read(Place { region: 0, index }),
+            *word,
+            "word {index}"
+        );
+        index += 1;
+    }
+}
+
+fn is_on_board(range: Range) -> bool
+    ensures { IsTrue result → IsFull range × IsOnBoard range }
+{
+    range.region == 0 && range.low < range.high && range.high <= COUNT
+}
+
+fn is_apart(d: Range, x: Range) -> bool
+    ensures { IsTrue result → AreApart d x }
+{
+    d.high <= x.low || x.high <= d.low
+}
+
+fn is_same(d: Range, x: Range) -> bool
+    ensures { IsTrue result → d ≡ x }
+{
+    d == x
+}
+
+fn is_long(range: Range, length: u32) -> bool
+    requires { IsFull range }
+    ensures { IsTrue result → length_of range ≡ length }
+{
+    range.high - range.low == length
+}
+
+// Whether a source is in step with the destination.
+fn is_in_step(d: Range, x: Range) -> bool
+    requires { IsFull d }
+    ensures { IsTrue result → IsFull x × IsOnBoard x × IsInStep d x }
+{
+    is_on_board(x) && is_long(x, d.high - d.low) && (is_same(x, d) || is_apart(d, x))
+}
+
+// Whether a source of a length is apart from the destination.
+fn is_beside(d: Range, x: Range, length: u32) -> bool
+    ensures { IsTrue result → IsFull x × IsOnBoard x × (length_of x ≡ length) × AreApart d x }
+{
+    is_on_board(x) && is_long(x, length) && is_apart(d, x)
+}
+
+// Whether an operation has its shape, on words of the board.
+fn fits(op: &Op) -> bool
+    ensures full { IsTrue result → All IsFull (op_writes op.now ∷ op_reads op.now) }
+    ensures shape { IsTrue result → FitsShape op.now }
+    ensures places { IsTrue result → All IsOnBoard (op_writes op.now ∷ op_reads op.now) }
+{
+    let d = writes(op);
+    if !is_on_board(d) {
+        return false;
+    }
+    let n = d.high - d.low;
+    match *op {
+        Op::Fill(..) => true,
+        Op::Copy(_, x) | Op::Axpy(_, _, x) | Op::Scan(_, x) => is_in_step(d, x),
+        Op::Add(_, x, z) | Op::Sub(_, x, z) | Op::Mul(_, x, z) => {
+            is_in_step(d, x) && is_in_step(d, z)
+        }
+        Op::Sum(_, x) | Op::Max(_, x) => n == 1 && is_on_board(x) && is_apart(d, x),
+        Op::Dot(_, x, z) => n == 1
+            && is_on_board(x)
+            && is_apart(d, x)
+            && is_beside(d, z, x.high - x.low),
+        Op::Stencil(_, _, _, _, x) => n < COUNT && is_beside(d, x, n + 2),
+        Op::Spmv(_, s, c, v, x) => {
+            n < COUNT
+                && is_beside(d, s, n + 1)
+                && is_on_board(v)
+                && is_apart(d, v)
+                && is_beside(d, c, v.high - v.low)
+                && is_on_board(x)
+                && is_apart(d, x)
+        }
+    }
+}
+
+// Runs an operation that fits.
+fn run<F: Field>(rt: &impl Abort, field: &mut F, op: Op)
+    requires { HasBoard (F.state field.old) }
+    ensures { HasBoard (F.state field.new) }
+{
+    assert!(rt; fits(&op));
+    apply(&op, field);
+}
+
+fn each_operation_in_a_row<F: Field>(
+    rt: &impl Abort,
+    alloc: Global,
+    field: &mut F,
+) -> Result<(), Fail> {
+    load_board(alloc, field)?;
+    let (x, a, b, c) = (part(0, 4), part(4, 8), part(8, 12), part(12, 14));
+    put(rt, field, 0, &[1, 2, 3, 4, 1, 1, 1, 1]);
+    run(rt, field, Op::Axpy(a, 3, x));
+    run(rt, field, Op::Scan(b, x));
+    run(rt, field, Op::Stencil(c, 1, 2, 1, x));
+    run(rt, field, Op::Sum(part(14, 15), x));
+    run(rt, field, Op::Dot(part(15, 16), x, x));
+    run(rt, field, Op::Max(part(16, 17), b));
+    expect_words(
+        rt,
+        field,
+        0,
+        &[1, 2, 3, 4, 4, 7, 10, 13, 1, 3, 6, 10, 8, 12, 10, 30, 10],
+    );
+    Ok(())
+}
+
+fn words_wrap_and_rows_end<F: Field>(
+    rt: &impl Abort,
+    alloc: Global,
+    field: &mut F,
+) -> Result<(), Fail> {
+    load_board(alloc, field)?;
+    let (starts, cols, vals, x, y) = (
+        part(4, 7),
+        part(7, 10),
+        part(10, 13),
+        part(13, 16),
+        part(16, 18),
+    );
+    put(
+        rt,
+        field,
+        0,
+        &[
+            LARGEST, LARGEST, 0, 0, 0, 0, 0, 0, 2, 4, 5, 5, 5, 1, 2, 3, 9, 9,
+        ],
+    );
+    run(rt, field, Op::Sum(part(2, 3), part(0, 2)));
+    run(rt, field, Op::Sub(part(3, 4), part(13, 14), part(14, 15)));
+    run(rt, field, Op::Fill(part(4, 5), 2));
+    run(rt, field, Op::Fill(part(6, 7), 9));
+    run(rt, field, Op::Spmv(y, starts, cols, vals, x));
+    expect_words(
+        rt,
+        field,
+        2,
+        &[
+            LARGEST - 1,
+            LARGEST,
+            2,
+            0,
+            9,
+            0,
+            2,
+            4,
+            5,
+            5,
+            5,
+            1,
+            2,
+            3,
+            0,
+            20,
+        ],
+    );
+    Ok(())
+}
+
+// The words from an index on after an operation on x = 1 2 3 4, z = 5 6 7 8 and four words 9.
+fn gives<F: Field>(
+    rt: &impl Abort,
+    alloc: Global,
+    field: &mut F,
+    op: Op,
+    low: u32,
+    wanted: [u64; 4],
+) -> Result<(), Fail> {
+    load_board(alloc, field)?;
+    put(rt, field, 0, &[1, 2, 3, 4, 5, 6, 7, 8, 9, 9, 9, 9]);
+    run(rt, field, op);
+    expect_words(rt, field, low, &wanted);
+    Ok(())
+}
+
+// Each operation, apart from its sources and in place.
+fn apart_and_in_place<F: Field>(rt: &impl Abort, alloc: Global, field: &mut F) -> Result<(), Fail> {
+    let (x, z, d, one) = (part(0, 4), part(4, 8), part(8, 12), part(8, 9));
+    let minus_four = LARGEST - 3;
+    let cases = [
+        (Op::Fill(d, 3), 8, [3, 3, 3, 3]),
+        (Op::Copy(d, x), 8, [1, 2, 3, 4]),
+        (Op::Add(d, x, z), 8, [6, 8, 10, 12]),
+        (
+            Op::Sub(d, x, z),
+            8,
+            [minus_four, minus_four, minus_four, minus_four],
+        ),
+        (Op::Mul(d, x, z), 8, [5, 12, 21, 32]),
+        (Op::Axpy(d, 3, x), 8, [12, 15, 18, 21]),
+        (Op::Scan(d, x), 8, [1, 3, 6, 10]),
+        (Op::Sum(one, x), 8, [10, 9, 9, 9]),
+        (Op::Dot(one, x, z), 8, [70, 9, 9, 9]),
+        (Op::Max(one, z), 8, [8, 9, 9, 9]),
+        (Op::Stencil(part(8, 10), 1, 2, 10, x), 8, [35, 48, 9, 9]),
+        (Op::Copy(x, x), 0, [1, 2, 3, 4]),
+        (Op::Add(x, x, x), 0, [2, 4, 6, 8]),
+        (Op::Sub(x, z, x), 0, [4, 4, 4, 4]),
+        (Op::Mul(x, x, x), 0, [1, 4, 9, 16]),
+        (Op::Axpy(x, 3, x), 0, [4, 8, 12, 16]),
+        (Op::Scan(x, x), 0, [1, 3, 6, 10]),
+    ];
+    for (op, low, wanted) in cases {
+        gives(rt, alloc, field, op, low, wanted)?;
+    }
+    Ok(())
+}
+
+// A sparse product over two rows, three positions and three columns: starts, columns, values, and the words given.
+// The vector is 1 2 3.
+fn rows_of_a_sparse_product<F: Field>(
+    rt: &impl Abort,
+    alloc: Global,
+    field: &mut F,
+) -> Result<(), Fail> {
+    let four_gibi = 1u64 << 32;
+    let half = 1u64 << 63;
+    let cases = [
+        ([0, 1, 3], [0, 1, 2], [5, 5, 5], [5, 25]),
+        ([2, 0, 9], [0, 2, 4], [5, 5, 5], [0, 20]),
+        ([1, 1, 2], [0, 2, 4], [5, 5, 5], [0, 15]),
+        ([7, 9, 9], [0, 2, 4], [5, 5, 5], [0, 0]),
+        ([0, LARGEST, 0], [0, 2, 4], [5, 5, 5], [20, 0]),
+        (
+            [four_gibi, four_gibi + 3, four_gibi],
+            [0, 1, 2],
+            [5, 5, 5],
+            [0, 0],
+        ),
+        ([0, 3, 3], [four_gibi, LARGEST, 3], [5, 5, 5], [0, 0]),
+        ([0, 3, 3], [1, 2, 0], [half, 1, LARGEST], [2, 0]),
+    ];
+    for (starts, cols, vals, wanted) in cases {
+        load_board(alloc, field)?;
+        put(rt, field, 0, &starts);
+        put(rt, field, 3, &cols);
+        put(rt, field, 6, &vals);
+        put(rt, field, 9, &[1, 2, 3, 9, 9]);
+        run(
+            rt,
+            field,
+            Op::Spmv(
+                part(12, 14),
+                part(0, 3),
+                part(3, 6),
+                part(6, 9),
+                part(9, 12),
+            ),
+        );
+        expect_words(rt, field, 12, &wanted);
+    }
+    Ok(())
+}
+
+#[test]
+fn operations_on_a_field_of_maps(rt: HostRuntime) -> Result<(), Fail> {
+    let alloc = rt.alloc();
+    let mut field = MapField::empty(alloc);
+    each_operation_in_a_row(&rt, alloc, &mut field)?;
+    words_wrap_and_rows_end(&rt, alloc, &mut field)?;
+    apart_and_in_place(&rt, alloc, &mut field)?;
+    rows_of_a_sparse_product(&rt, alloc, &mut field)?;
+    Ok(())
+}
