@@ -16,6 +16,7 @@ use cd_foot::Footprints;
 use cd_tree::{Entry, How, NodeId, Refusal, Tree};
 use std::alloc::Global;
 
+// The ranges of entries.
 fn ranges_of(alloc: Global, entries: &[Entry]) -> Result<Vec<Range>, NoMemory>
     ensures { IfOk result (λ ranges. ranges.items ≡ map (λ entry. entry.range) entries.now) }
 {
@@ -41,6 +42,7 @@ fn first_uncovered(
     Ok(preserved.lacks(feet.reach(node)))
 }
 
+// What a domain's entries leave out, as a refusal.
 fn coverage_flaw(
     alloc: Global,
     tree: &Tree,
@@ -58,6 +60,7 @@ fn coverage_flaw(
     }
 }
 
+// The refusal of a reference: it has no link, or is stale.
 fn reference_flaw(
     tree: &Tree,
     feet: &Footprints,
@@ -79,6 +82,7 @@ fn reference_flaw(
     }
 }
 
+// The refusal of an entry, which only a reference can have.
 fn entry_flaw(
     tree: &Tree,
     feet: &Footprints,

@@ -9,6 +9,7 @@ use cd_base::NoMemory;
 use cd_tree::{Entry, How, Item, NodeId, Tree};
 use std::alloc::Global;
 
+// The blocks of one entry; a reference takes one more, since it may begin inside one.
 fn entry_blocks(entry: Entry) -> u64
     ensures value { result ≡ entry_need entry }
     ensures small { result ≤ 67108865 }
@@ -20,6 +21,7 @@ fn entry_blocks(entry: Entry) -> u64
     }
 }
 
+// The blocks of a domain's own entries.
 fn own_blocks(entries: &[Entry]) -> u64
     requires { length entries.now ≤ 64 }
     ensures value { result ≡ sum_by entry_need entries.now }

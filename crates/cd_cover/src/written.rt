@@ -19,11 +19,11 @@ use cd_tree::{Item, NodeId, Tree, writes};
 
 // The least place of a range that a domain writes.
 fn first_of_domain(tree: &Tree, feet: &Footprints, node: NodeId, range: Range) -> Option<Place>
+    requires tree { IsTree tree.now }
     requires feet { AreFeet tree.now.domains feet.now }
     requires node { node.0 < length tree.now.domains }
     ensures { IsSomeAnd (node_of tree.now.domains node) (λ d. IsLeast (λ q. in_range range q && node_writes d q) result) }
 {
-    prove!(node.0 < tree.count());
     feet.writes(node).first_in(range)
 }
 
@@ -34,6 +34,7 @@ fn first_of_members(
     members: &[NodeId],
     range: Range,
 ) -> Option<Place>
+    requires tree { IsTree tree.now }
     requires feet { AreFeet tree.now.domains feet.now }
     requires members { All (λ (id : NodeId). id.0 < length tree.now.domains) members.now }
     ensures { IsLeast (λ q. in_range range q && member_writes (members_by (node_of tree.now.domains) members.now) q) result }
@@ -76,6 +77,7 @@ fn first_before(
     found
 }
 
+// Whether a domain is one of these members.
 fn is_among(child: NodeId, members: &[NodeId]) -> bool
     ensures { result ≡ list_any (λ m. m.0 == child.0) members.now }
 {

@@ -14,7 +14,8 @@ use Rattle.cd_tree.specs.KindSets.{has_kind}
 use Rattle.cd_tree.specs.Operations.{IsFull}
 use Rattle.cd_tree.specs.Outlines.{Outline, IsTree, FitsDomain, SiblingsDiffer, KindsDiffer}
 use Rattle.cd_tree.specs.Scripts.{CanStrike, IsAccepted, DetectableMembers}
-use Rattle.cd_tree.specs.Domains.{members_by, node_of}
+use Rattle.cd_tree.specs.Domains.{members_by, node_of, root_of, node_numbers, node_depth}
+use Rattle.cd_tree.specs.Parts.{WalkGives}
 use Rattle.cd_tree.specs.Paths.{path_text_of}
 use Rattle.cd_tree.proofs.WorkedForms.{number, part, copied, strike}
 
@@ -155,6 +156,16 @@ pair_is_tree =
       items = omega arith;
       preserves = omega arith;
     }
+
+-- a walk over it ends behind its third domain, within two levels and not within one
+pair_is_walked : WalkGives (node_numbers (root_of pair.domains)) (node_depth (root_of pair.domains)) 0 2 (Some 3)
+pair_is_walked = (omega arith, refl, omega arith)
+
+pair_is_deeper : WalkGives (node_numbers (root_of pair.domains)) (node_depth (root_of pair.domains)) 0 1 None
+pair_is_deeper n same = omega arith
+
+not_from_one : WalkGives (node_numbers (root_of pair.domains)) (node_depth (root_of pair.domains)) 1 2 (Some 4) → ⊥
+not_from_one (up, same, low) = absurd (cc)
 
 -- a flip in the first member, and a node in the second, which its parent declares
 abbrev flip : Fault

@@ -22,7 +22,8 @@ fn part(region: u32, low: u32, high: u32) -> Range {
     Range { region, low, high }
 }
 
-fn top<'a>(members: &'a [NodeId]) -> Sketch<'a> {
+// The root of a test's domains.
+fn top(members: &[NodeId]) -> Sketch<'_> {
     Sketch {
         name: "top",
         parent: None,
@@ -33,7 +34,8 @@ fn top<'a>(members: &'a [NodeId]) -> Sketch<'a> {
     }
 }
 
-fn leaf<'a>(name: &'a str) -> Sketch<'a> {
+// A child of the root with no domain in it.
+fn leaf(name: &str) -> Sketch<'_> {
     Sketch {
         name,
         parent: Some(NodeId(0)),

@@ -10,7 +10,7 @@ no_member = record { 0 = 0 }
 
 pub first_of_domain-requires : goal.first_of_domain-requires
 first_of_domain-requires c =
-    record { feet = c.requires.feet; node = c.requires.members c.loop-member.member-index no_member c.loop-member-test.true }
+    record { tree = c.requires.tree; feet = c.requires.feet; node = c.requires.members c.loop-member.member-index no_member c.loop-member-test.true }
 
 pub loop-member-init : goal.loop-member-init
 loop-member-init c = leaves_all (by_members c.args.range (node_of c.args.tree.now.domains) c.args.members.now)
