@@ -2,5 +2,4 @@ pub mod Feet
 pub mod Gathered
 pub mod Laws
 pub mod Overlaps
-pub mod Samples
 pub mod Siblings

@@ -9,6 +9,3 @@ mod overlaps;
 
 pub use footprints::{Foot, Footprints};
 pub use overlaps::disjoint;
-
-#[cfg(test)]
-mod tests;
