@@ -3,7 +3,7 @@
 
 use cd_app::{Words, run_cd};
 use cd_base::{NoMemory, StdSink, StdSource, Text};
-use cd_field::MapField;
+use cd_field::ScriptField;
 use std::alloc::{AllocError, Global};
 use std::process::ExitCode;
 use std::{env, io};
@@ -28,7 +28,7 @@ fn main(rt: HostRuntime) -> ExitCode {
     };
     let mut source = StdSource::new(rt.reader());
     let mut sink = StdSink::new(io::writer(&rt));
-    let mut machine = MapField::empty(alloc);
+    let mut machine = ScriptField::empty(alloc);
     let status = run_cd(alloc, &words, &mut source, &mut sink, &mut machine);
     ExitCode::from(status.code())
 }

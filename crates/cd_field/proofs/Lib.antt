@@ -1,2 +1,5 @@
 mod PlaceLemmas
 mod StrikeLemmas
+mod FlatLemmas
+mod PartLemmas
+mod EventLemmas

@@ -1,2 +1,5 @@
 pub mod Machine
 pub mod Maps
+pub mod Flat
+pub mod EventLists
+pub mod FlatMachine

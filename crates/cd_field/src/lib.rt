@@ -1,15 +1,21 @@
-//! The machine that a program runs on: the trait that says what each call does to it, and a plain machine over maps.
+//! The machine that a program runs on: the trait that says what each call does to it, the machine over flat lists that the
+//! program ships, and a plain machine over maps.
 //!
 //! Contracts see a machine as one record, and each call's clause is one equation between the record after the call and
 //! the record before it, so what an equation does not name stays.
 #![tactic(auto)]
 
+mod event_list;
 mod field;
+mod flat_parts;
+mod flat_words;
 mod map_field;
+mod script_field;
 mod words;
 
 pub use field::Field;
 pub use map_field::MapField;
+pub use script_field::ScriptField;
 
 #[cfg(test)]
 mod tests;

@@ -3,7 +3,7 @@ ghost use Rattle.cd_base.specs.Words.{in_ranges};
 ghost use Rattle.cd_tree.specs.Meaning.{initial};
 ghost use Rattle.cd_field.specs.Machine.{ArePresent, IsPresent};
 
-use crate::{Field, MapField};
+use crate::{Field, MapField, ScriptField};
 use cd_base::{Items, Pattern, Place, Places, Range, Text};
 use cd_tree::{Event, Fault, Kept, Kind, Kinds, NodeId, Region, Regions, Script};
 use std::alloc::Global;
@@ -176,12 +176,90 @@ fn carves<F: Field>(rt: &impl Abort, field: &mut F, alloc: Global) -> Result<(),
     Ok(())
 }
 
+// A part is carved out of a part, over a place of both, and each comes back.
+fn carves_twice<F: Field>(rt: &impl Abort, field: &mut F, alloc: Global) -> Result<(), Fail> {
+    field.load(&two_regions(alloc)?, &Items::new(alloc))?;
+    let reads = places(alloc, 0, 3)?;
+    let writes = places(alloc, 1, 2)?;
+    let mut part = field.carve(&reads, &writes)?;
+    part.begin(NodeId(1), 1)?;
+    let mut inner = part.carve(&writes, &writes)?;
+    inner.begin(NodeId(2), 1)?;
+    inner.write(place(1), 77);
+    inner.complete()?;
+    part.absorb(inner, true)?;
+    part.complete()?;
+    assert_eq!(rt; part.read(place(0)), 9);
+    assert_eq!(rt; part.read(place(1)), 77);
+    field.absorb(part, true)?;
+    assert_eq!(rt; field.read(place(0)), 9);
+    assert_eq!(rt; field.read(place(1)), 77);
+    let told = [
+        Event::Begin {
+            node: NodeId(1),
+            number: 1,
+        },
+        Event::Begin {
+            node: NodeId(2),
+            number: 1,
+        },
+        Event::Complete { node: NodeId(2) },
+        Event::Complete { node: NodeId(1) },
+    ];
+    let mut k = 0;
+    for event in told {
+        assert_eq!(rt; field.event(k), Some(event), "event {k}");
+        k = k.saturating_add(1);
+    }
+    assert_eq!(rt; field.event(4), None);
+    Ok(())
+}
+
+// A long record, in a part and behind it.
+fn remembers_many<F: Field>(rt: &impl Abort, field: &mut F, alloc: Global) -> Result<(), Fail> {
+    field.load(&two_regions(alloc)?, &Items::new(alloc))?;
+    let writes = places(alloc, 0, 1)?;
+    let mut part = field.carve(&writes, &writes)?;
+    for entry in 0..1100 {
+        field.refilled(entry)?;
+        part.refilled(entry)?;
+    }
+    field.absorb(part, false)?;
+    field.complete()?;
+    let node = NodeId(0);
+    for entry in 0..1100 {
+        let told = Event::Refilled { node, entry };
+        assert_eq!(rt; field.event(u64::from(entry)), Some(told), "event {entry}");
+        assert_eq!(rt;
+            field.event(u64::from(entry) + 1100),
+            Some(told),
+            "event {entry} of the part"
+        );
+    }
+    assert_eq!(rt; field.event(2200), Some(Event::Complete { node }));
+    assert_eq!(rt; field.event(2201), None);
+    Ok(())
+}
+
+fn meets_its_calls<F: Field>(rt: &impl Abort, field: &mut F, alloc: Global) -> Result<(), Fail> {
+    strikes(rt, field, alloc)?;
+    tells(rt, field)?;
+    carves(rt, field, alloc)?;
+    carves_twice(rt, field, alloc)?;
+    remembers_many(rt, field, alloc)?;
+    Ok(())
+}
+
 #[test]
 fn a_field_of_maps_meets_its_calls(rt: HostRuntime) -> Result<(), Fail> {
     let alloc = rt.alloc();
     let mut field = MapField::empty(alloc);
-    strikes(&rt, &mut field, alloc)?;
-    tells(&rt, &mut field)?;
-    carves(&rt, &mut field, alloc)?;
-    Ok(())
+    meets_its_calls(&rt, &mut field, alloc)
+}
+
+#[test]
+fn a_flat_field_meets_its_calls(rt: HostRuntime) -> Result<(), Fail> {
+    let alloc = rt.alloc();
+    let mut field = ScriptField::empty(alloc);
+    meets_its_calls(&rt, &mut field, alloc)
 }

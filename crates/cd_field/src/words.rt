@@ -69,7 +69,7 @@ pub(crate) fn strike(
     Ok(kinds)
 }
 
-fn strikes(fault: Fault, node: NodeId, begin: u64, point: u32) -> bool
+pub(crate) fn strikes(fault: Fault, node: NodeId, begin: u64, point: u32) -> bool
     ensures { result ≡ strikes_at node begin point fault }
 {
     fault.node.0 == node.0 && fault.begin == begin && fault.item == point

@@ -1,0 +1,468 @@
+-- A flat list of words and its table: where a word stands, and what a change of one cell does.
+use Rattle.std.proofs.Common.{◌≡◌, ℕ, zero, suc, ◌+◌, ◌-◌, ◌<◌, ◌≤◌, ◌⊎◌, Bool, true, false, ◌&&◌, ◌||◌, nat_lt, nat_le, ◌==◌, cond, if◌then◌else◌, List, [], ◌∷◌, ◌++◌, length, set, replicate, ◌≢◌, IsSome, Option, None, Some, arith, refl, ap, subst, sym, ◌∙◌, inl, inr, append_assoc}
+use Rattle.std.specs.Prelude.{slice_get}
+use Rattle.std.proofs.lemmas.List.{get_or-set_same, get_or-set_other, length-set, length-append, replicate-append-replicate, get_or_append_left, get_or-append-add, get_or_push, get_or-replicate, length-replicate}
+use Rattle.std.proofs.lemmas.Option.{slice_get-get_or, slice_get_past}
+use Rattle.std.proofs.lemmas.Bool.{eq-eqb, cases_Bool, and_parts, and_from, cases_lt}
+use Rattle.std.proofs.lemmas.Bool.Decides.{nat_tests}
+use Rattle.cd_base.specs.declared.place.Place.{Place}
+use Rattle.cd_base.specs.declared.place.Range.{Range}
+use Rattle.cd_base.specs.Words.{same_place, in_range}
+use Rattle.cd_tree.specs.Operations.{length_of}
+use Rattle.cd_field.specs.declared.flat_words.Cell.{Cell}
+use Rattle.cd_field.specs.declared.flat_words.Slot.{Slot}
+use Rattle.cd_field.proofs.PlaceLemmas.{same_place-eq}
+use Rattle.cd_field.specs.Flat.{index_of, cell_by, word_in, lost_in, slot_at, no_slot, is_behind, IsInOrder, HasCells}
+
+-- ---- choices
+
+pub by_test : {P : Type 0} (b : Bool) → (b ≡ true → P) → (b ≡ false → P) → P
+by_test {P} b when unless = elim (cases_Bool b) [ inl e ↦ when e | inr e ↦ unless e ]
+
+pub not_true : (b : Bool) → (b ≡ true → ⊥) → b ≡ false
+not_true b refuted = by_test b (λ e. absurd (refuted e)) (λ e. e)
+
+pub chosen : {A : Type 0} (b : Bool) (x y : A) → b ≡ true → cond b x y ≡ x
+chosen {A} b x y e = rw e refl
+
+pub other : {A : Type 0} (b : Bool) (x y : A) → b ≡ false → cond b x y ≡ y
+other {A} b x y e = rw e refl
+
+-- ---- ranges
+
+record Inside (r : Range) (p : Place) : Type 0 where
+  pub region : r.region ≡ p.region
+  pub low : r.low ≤ p.index
+  pub high : p.index < r.high
+
+inside_from : (r : Range) (p : Place) → in_range r p ≡ true → Inside r p
+inside_from r p h =
+    let parts : ((r.region == p.region) ≡ true) × ((nat_le r.low p.index && nat_lt p.index r.high) ≡ true) = and_parts _ _ h in
+    let ends : (nat_le r.low p.index ≡ true) × (nat_lt p.index r.high ≡ true) = and_parts _ _ parts.1 in
+    record { region = grind (arith, nat_tests); low = grind (arith, nat_tests); high = grind (arith, nat_tests) }
+
+inside_to : (r : Range) (p : Place) → Inside r p → in_range r p ≡ true
+inside_to r p h =
+    let region : (r.region == p.region) ≡ true = eq-eqb _ _ h.region in
+    let low : nat_le r.low p.index ≡ true = (let l : r.low ≤ p.index = h.low in grind (arith, nat_tests)) in
+    let high : nat_lt p.index r.high ≡ true = (let l : p.index < r.high = h.high in grind (arith, nat_tests)) in
+    and_from _ _ region (and_from _ _ low high)
+
+abbrev ends_before : Range → Place → Bool
+ends_before r p = nat_lt r.region p.region || ((r.region == p.region) && nat_le r.high p.index)
+
+abbrev begins_behind : Range → Place → Bool
+begins_behind r p = nat_lt p.region r.region || ((r.region == p.region) && nat_lt p.index r.low)
+
+ends_says : (a b h i : ℕ) → (nat_lt a b || ((a == b) && nat_le h i)) ≡ true → (a < b) ⊎ ((a ≡ b) × (h ≤ i))
+ends_says a b h i e =
+    elim (cases_lt a b) [
+      | inl l ↦ inl l
+      | inr l ↦ inr (grind (arith, nat_tests), grind (arith, nat_tests))
+    ]
+
+begins_says : (a b l i : ℕ) → (nat_lt b a || ((a == b) && nat_lt i l)) ≡ true → (b < a) ⊎ ((a ≡ b) × (i < l))
+begins_says a b l i e =
+    elim (cases_lt b a) [
+      | inl m ↦ inl m
+      | inr m ↦ inr (grind (arith, nat_tests), grind (arith, nat_tests))
+    ]
+
+neither_says : (a b l h i : ℕ) → (nat_lt a b || ((a == b) && nat_le h i)) ≡ false → (nat_lt b a || ((a == b) && nat_lt i l)) ≡ false
+    → (a ≡ b) × (l ≤ i) × (i < h)
+neither_says a b l h i e f = (grind (arith, nat_tests), grind (arith, nat_tests), grind (arith, nat_tests))
+
+-- what ends before a place has it not, and so has what is before that
+pub ended : (r : Range) (p : Place) → ends_before r p ≡ true → in_range r p ≡ false
+ended r p e = not_true _ (λ t.
+    let i : Inside r p = inside_from r p t in
+    elim (ends_says r.region p.region r.high p.index e) [
+      | inl l ↦ (let region : r.region ≡ p.region = i.region in omega arith)
+      | inr m ↦ (let high : p.index < r.high = i.high in omega arith)
+    ])
+
+pub ended_earlier : (r s : Range) (p : Place) → is_behind r s ≡ true → s.low ≤ s.high → ends_before s p ≡ true → in_range r p ≡ false
+ended_earlier r s p behind proper e = not_true _ (λ t.
+    let i : Inside r p = inside_from r p t in
+    let region : r.region ≡ p.region = i.region in
+    let high : p.index < r.high = i.high in
+    elim (ends_says r.region s.region r.high s.low behind) [
+      | inl l ↦ elim (ends_says s.region p.region s.high p.index e) [
+        | inl m ↦ omega arith
+        | inr m ↦ omega arith
+      ]
+      | inr l ↦ elim (ends_says s.region p.region s.high p.index e) [
+        | inl m ↦ omega arith
+        | inr m ↦ omega arith
+      ]
+    ])
+
+pub begun : (r : Range) (p : Place) → begins_behind r p ≡ true → in_range r p ≡ false
+begun r p e = not_true _ (λ t.
+    let i : Inside r p = inside_from r p t in
+    let region : r.region ≡ p.region = i.region in
+    let low : r.low ≤ p.index = i.low in
+    elim (begins_says r.region p.region r.low p.index e) [
+      | inl l ↦ omega arith
+      | inr m ↦ omega arith
+    ])
+
+pub begun_later : (r s : Range) (p : Place) → is_behind r s ≡ true → r.low ≤ r.high → begins_behind r p ≡ true → in_range s p ≡ false
+begun_later r s p behind proper e = not_true _ (λ t.
+    let i : Inside s p = inside_from s p t in
+    let region : s.region ≡ p.region = i.region in
+    let low : s.low ≤ p.index = i.low in
+    elim (ends_says r.region s.region r.high s.low behind) [
+      | inl l ↦ elim (begins_says r.region p.region r.low p.index e) [
+        | inl m ↦ omega arith
+        | inr m ↦ omega arith
+      ]
+      | inr l ↦ elim (begins_says r.region p.region r.low p.index e) [
+        | inl m ↦ omega arith
+        | inr m ↦ omega arith
+      ]
+    ])
+
+pub covered : (r : Range) (p : Place) → ends_before r p ≡ false → begins_behind r p ≡ false → in_range r p ≡ true
+covered r p e f =
+    let n : (r.region ≡ p.region) × (r.low ≤ p.index) × (p.index < r.high) = neither_says r.region p.region r.low r.high p.index e f in
+    inside_to r p (record { region = n.0; low = n.1; high = n.2 })
+
+pub apart_behind : (r s : Range) (p : Place) → is_behind r s ≡ true → in_range r p ≡ true → in_range s p ≡ false
+apart_behind r s p behind h = not_true _ (λ t.
+    let i : Inside r p = inside_from r p h in
+    let j : Inside s p = inside_from s p t in
+    let here : r.region ≡ p.region = i.region in
+    let there : s.region ≡ p.region = j.region in
+    let high : p.index < r.high = i.high in
+    let low : s.low ≤ p.index = j.low in
+    elim (ends_says r.region s.region r.high s.low behind) [
+      | inl l ↦ omega arith
+      | inr l ↦ omega arith
+    ])
+
+-- ---- the table
+
+-- a place that no slot has stands nowhere
+pub index_miss : (slots : List Slot) (p : Place) → ((k : ℕ) → k < length slots → in_range (slot_at slots k).range p ≡ false)
+    → index_of slots p ≡ None
+index_miss [] p miss = refl
+index_miss (slot ∷ slots) p miss =
+    other (in_range slot.range p) _ _ (miss 0 (omega arith)) ∙ index_miss slots p (λ k short. miss (suc k) (omega arith))
+
+-- a place stands where the first slot that has it says
+pub index_hit : (slots : List Slot) (p : Place) (k : ℕ) → k < length slots → in_range (slot_at slots k).range p ≡ true
+    → ((j : ℕ) → j < k → in_range (slot_at slots j).range p ≡ false)
+    → index_of slots p ≡ Some ((slot_at slots k).first + (p.index - (slot_at slots k).range.low))
+index_hit [] p k short hit miss = absurd (omega arith)
+index_hit (slot ∷ slots) p zero short hit miss = chosen (in_range slot.range p) _ _ hit
+index_hit (slot ∷ slots) p (suc k) short hit miss =
+    other (in_range slot.range p) _ _ (miss 0 (omega arith))
+    ∙ index_hit slots p k (omega arith) hit (λ j before. miss (suc j) (omega arith))
+
+-- the slot that says where a place stands
+record Found (slots : List Slot) (p : Place) (i : ℕ) : Type 0 where
+  pub k : ℕ
+  pub short : k < length slots
+  pub has : in_range (slot_at slots k).range p ≡ true
+  pub is : (slot_at slots k).first + (p.index - (slot_at slots k).range.low) ≡ i
+
+index_found : (slots : List Slot) (p : Place) (i : ℕ) → index_of slots p ≡ Some i → Found slots p i
+index_found [] p i e = absurd (cc)
+index_found (slot ∷ slots) p i e =
+    by_test (in_range slot.range p)
+    (λ t. let here : Some (slot.first + (p.index - slot.range.low)) ≡ Some i = sym (chosen (in_range slot.range p) _ _ t) ∙ e in
+    record { k = 0; short = omega arith; has = t; is = cc })
+    (λ f. let later : Found slots p i = index_found slots p i (sym (other (in_range slot.range p) _ _ f) ∙ e) in
+    record { k = suc later.k; short = (let s : later.k < length slots = later.short in omega arith); has = later.has; is = later.is })
+
+-- no two places stand at one index
+pub index_one : (slots : List Slot) (count : ℕ) (p q : Place) (i : ℕ) → HasCells slots count → index_of slots p ≡ Some i → index_of slots q ≡ Some i
+    → same_place p q ≡ true
+index_one slots count p q i cells at_p at_q =
+    let a : Found slots p i = index_found slots p i at_p in
+    let b : Found slots q i = index_found slots q i at_q in
+    let r : Range = (slot_at slots a.k).range in
+    let s : Range = (slot_at slots b.k).range in
+    let in_r : Inside r p = inside_from r p a.has in
+    let in_s : Inside s q = inside_from s q b.has in
+    let r_low : r.low ≤ p.index = in_r.low in
+    let r_high : p.index < r.high = in_r.high in
+    let s_low : s.low ≤ q.index = in_s.low in
+    let s_high : q.index < s.high = in_s.high in
+    let a_is : (slot_at slots a.k).first + (p.index - r.low) ≡ i = a.is in
+    let b_is : (slot_at slots b.k).first + (q.index - s.low) ≡ i = b.is in
+    elim (cases_lt a.k b.k) [
+      | inl l ↦ absurd (let e : (slot_at slots a.k).first + (r.high - r.low) ≤ (slot_at slots b.k).first = cells.apart a.k b.k l b.short in omega arith)
+      | inr l ↦ elim (cases_lt b.k a.k) [
+        | inl m ↦ absurd (let e : (slot_at slots b.k).first + (s.high - s.low) ≤ (slot_at slots a.k).first = cells.apart b.k a.k m a.short in omega arith)
+        | inr m ↦
+            let k : a.k ≡ b.k = omega arith in
+            let same : slot_at slots a.k ≡ slot_at slots b.k = ap (slot_at slots) k in
+            let low : r.low ≡ s.low = ap (λ (v : Slot). v.range.low) same in
+            let first : (slot_at slots a.k).first ≡ (slot_at slots b.k).first = ap (λ (v : Slot). v.first) same in
+            let region : r.region ≡ s.region = ap (λ (v : Slot). v.range.region) same in
+            let of_p : r.region ≡ p.region = in_r.region in
+            let of_q : s.region ≡ q.region = in_s.region in
+            let regions : p.region ≡ q.region = cc in
+            let indices : p.index ≡ q.index = omega arith in
+            and_from _ _ (eq-eqb _ _ regions) (eq-eqb _ _ indices)
+      ]
+    ]
+
+-- ---- the search
+
+-- no slot up to one that ends before a place has the place
+pub ahead_more : (slots : List Slot) (p : Place) (middle : ℕ) → IsInOrder slots → middle < length slots
+    → ends_before (slot_at slots middle).range p ≡ true
+    → (k : ℕ) → k < middle + 1 → in_range (slot_at slots k).range p ≡ false
+ahead_more slots p middle order short e k before =
+    elim (cases_lt k middle) [
+      | inl l ↦
+          ended_earlier (slot_at slots k).range (slot_at slots middle).range p (order.order k middle l short) (order.proper middle short) e
+      | inr l ↦
+          let same : middle ≡ k = omega arith in
+          let P : ℕ → Type 0 = λ n. in_range (slot_at slots n).range p ≡ false in
+          subst P same (ended (slot_at slots middle).range p e)
+    ]
+
+-- a slot that neither ends before a place nor begins behind it says where the place stands
+pub index_there : (slots : List Slot) (p : Place) (middle : ℕ) → IsInOrder slots → middle < length slots
+    → ends_before (slot_at slots middle).range p ≡ false → begins_behind (slot_at slots middle).range p ≡ false
+    → Some ((slot_at slots middle).first + (p.index - (slot_at slots middle).range.low)) ≡ index_of slots p
+index_there slots p middle order short e f =
+    let has : in_range (slot_at slots middle).range p ≡ true = covered (slot_at slots middle).range p e f in
+    sym (index_hit slots p middle short has (λ j before. not_true _ (λ t.
+    let not : in_range (slot_at slots middle).range p ≡ false =
+    apart_behind (slot_at slots j).range (slot_at slots middle).range p (order.order j middle before short) t in
+    cc)))
+
+-- ---- a change of one cell
+
+cell_there : (cells : List Cell) (i : ℕ) → IsSome (word_in (slice_get cells i)) → i < length cells
+cell_there cells i some =
+    elim (cases_lt i (length cells)) [
+      | inl l ↦ l
+      | inr l ↦
+          let none : slice_get cells i ≡ None = slice_get_past cells i l in
+          let P : Option Cell → Type 0 = λ o. IsSome (word_in o) in
+          let no : IsSome (word_in None) = subst P none some in
+          absurd (cc)
+    ]
+
+cell_same : (cells : List Cell) (i : ℕ) (cell : Cell) → i < length cells → slice_get (set cells i cell) i ≡ Some cell
+cell_same cells i cell short =
+    let long : i < length (set cells i cell) = omega (arith, length-set cells i cell) in
+    slice_get-get_or (set cells i cell) i cell long ∙ ap (λ (v : Cell). Some v) (get_or-set_same cells i cell cell short)
+
+cell_apart : (cells : List Cell) (i j : ℕ) (cell : Cell) → j ≢ i → slice_get (set cells i cell) j ≡ slice_get cells j
+cell_apart cells i j cell apart =
+    elim (cases_lt j (length cells)) [
+      | inl l ↦
+          let long : j < length (set cells i cell) = omega (arith, length-set cells i cell) in
+          slice_get-get_or (set cells i cell) j cell long
+          ∙ ap (λ (v : Cell). Some v) (get_or-set_other cells i j cell cell apart)
+          ∙ sym (slice_get-get_or cells j cell l)
+      | inr l ↦
+          let past : length (set cells i cell) ≤ j = omega (arith, length-set cells i cell) in
+          slice_get_past (set cells i cell) j past ∙ sym (slice_get_past cells j l)
+    ]
+
+cell_other : (cells : List Cell) (i : ℕ) (cell : Cell) (o : Option ℕ) → (o ≡ Some i → ⊥)
+    → cell_by (set cells i cell) o ≡ cell_by cells o
+cell_other cells i cell None apart = refl
+cell_other cells i cell (Some j) apart = cell_apart cells i j cell (λ e. apart (ap (λ (n : ℕ). Some n) e))
+
+pub cell_set : (slots : List Slot) (cells : List Cell) (p q : Place) (i : ℕ) (cell : Cell) → HasCells slots (length cells)
+    → index_of slots p ≡ Some i → IsSome (word_in (cell_by cells (index_of slots p)))
+    → cell_by (set cells i cell) (index_of slots q) ≡ (if same_place p q then Some cell else cell_by cells (index_of slots q))
+cell_set slots cells p q i cell own at_p some =
+    let P : Option ℕ → Type 0 = λ o. IsSome (word_in (cell_by cells o)) in
+    let short : i < length cells = cell_there cells i (subst P at_p some) in
+    by_test (same_place p q)
+    (λ t. let at_q : index_of slots q ≡ Some i = sym (ap (index_of slots) (same_place-eq p q t)) ∙ at_p in
+    ap (cell_by (set cells i cell)) at_q ∙ cell_same cells i cell short
+    ∙ sym (chosen (same_place p q) (Some cell) (cell_by cells (index_of slots q)) t))
+    (λ f. cell_other cells i cell (index_of slots q) (λ at_q. let t : same_place p q ≡ true = index_one slots (length cells) p q i own at_p at_q in cc)
+    ∙ sym (other (same_place p q) (Some cell) (cell_by cells (index_of slots q)) f))
+
+pub word_choice : (b : Bool) (cell : Cell) (o : Option Cell) → word_in (if b then Some cell else o) ≡ (if b then Some cell.word else word_in o)
+word_choice true cell o = refl
+word_choice false cell o = refl
+
+pub lost_choice : (b : Bool) (cell : Cell) (o : Option Cell) → lost_in (if b then Some cell else o) ≡ (if b then cell.lost else lost_in o)
+lost_choice true cell o = refl
+lost_choice false cell o = refl
+
+-- ---- one slot more
+
+by_option : {A P : Type 0} (o : Option A) → (o ≡ None → P) → ((x : A) → o ≡ Some x → P) → P
+by_option {A} {P} None none some = none refl
+by_option {A} {P} (Some x) none some = some x refl
+
+pushed_old : (slots : List Slot) (slot : Slot) (q : Place) (i : ℕ) → index_of slots q ≡ Some i
+    → index_of (slots ++ slot ∷ []) q ≡ Some i
+pushed_old [] slot q i e = absurd (cc)
+pushed_old (first ∷ slots) slot q i e =
+    by_test (in_range first.range q)
+    (λ t. chosen (in_range first.range q) _ _ t ∙ sym (chosen (in_range first.range q) _ (index_of slots q) t) ∙ e)
+    (λ f. other (in_range first.range q) _ _ f ∙ pushed_old slots slot q i (sym (other (in_range first.range q) _ _ f) ∙ e))
+
+pushed_new : (slots : List Slot) (slot : Slot) (q : Place) → index_of slots q ≡ None
+    → index_of (slots ++ slot ∷ []) q ≡ index_of (slot ∷ []) q
+pushed_new [] slot q e = refl
+pushed_new (first ∷ slots) slot q e =
+    by_test (in_range first.range q)
+    (λ t. let no : Some (first.first + (q.index - first.range.low)) ≡ None = sym (chosen (in_range first.range q) _ _ t) ∙ e in absurd (cc))
+    (λ f. other (in_range first.range q) _ _ f ∙ pushed_new slots slot q (sym (other (in_range first.range q) _ _ f) ∙ e))
+
+kept_cell : (cells more : List Cell) (i : ℕ) (d : Cell) → i < length cells → slice_get (cells ++ more) i ≡ slice_get cells i
+kept_cell cells more i d short =
+    slice_get-get_or (cells ++ more) i d (omega (arith, length-append cells more))
+    ∙ ap (λ (v : Cell). Some v) (get_or_append_left cells more d i short)
+    ∙ sym (slice_get-get_or cells i d short)
+
+new_cell : (cells : List Cell) (cell : Cell) (n i : ℕ) → i < n → slice_get (cells ++ replicate n cell) (length cells + i) ≡ Some cell
+new_cell cells cell n i short =
+    slice_get-get_or (cells ++ replicate n cell) (length cells + i) cell
+    (omega (arith, length-append cells (replicate n cell), length-replicate n cell))
+    ∙ ap (λ (v : Cell). Some v) (get_or-append-add cells (replicate n cell) i cell ∙ get_or-replicate n i cell cell short)
+
+-- each slot's range ends before this one
+abbrev AllBehind : List Slot → Range → Type 0
+AllBehind slots r = (k : ℕ) → k < length slots → is_behind (slot_at slots k).range r ≡ true
+
+pub opened : (slots : List Slot) (cells : List Cell) (r : Range) (cell : Cell) (q : Place) → HasCells slots (length cells)
+    → AllBehind slots r
+    → cell_by (cells ++ replicate (length_of r) cell) (index_of (slots ++ record { range = r; first = length cells } ∷ []) q)
+    ≡ (if in_range r q then Some cell else cell_by cells (index_of slots q))
+opened slots cells r cell q own behind =
+    let slot : Slot = record { range = r; first = length cells } in
+    let all : List Cell = cells ++ replicate (length_of r) cell in
+    by_option (index_of slots q)
+    (λ none. by_test (in_range r q)
+    (λ t. let at : index_of (slots ++ slot ∷ []) q ≡ Some (length cells + (q.index - r.low)) =
+    pushed_new slots slot q none ∙ chosen (in_range r q) _ _ t in
+    let i : Inside r q = inside_from r q t in
+    let low : r.low ≤ q.index = i.low in
+    let high : q.index < r.high = i.high in
+    ap (cell_by all) at ∙ new_cell cells cell (length_of r) (q.index - r.low) (omega arith)
+    ∙ sym (chosen (in_range r q) (Some cell) (cell_by cells (index_of slots q)) t))
+    (λ f. let at : index_of (slots ++ slot ∷ []) q ≡ None = pushed_new slots slot q none ∙ other (in_range r q) _ _ f in
+    ap (cell_by all) at ∙ sym (ap (cell_by cells) none)
+    ∙ sym (other (in_range r q) (Some cell) (cell_by cells (index_of slots q)) f)))
+    (λ i at. let found : Found slots q i = index_found slots q i at in
+    let here : Range = (slot_at slots found.k).range in
+    let in_here : Inside here q = inside_from here q found.has in
+    let low : here.low ≤ q.index = in_here.low in
+    let high : q.index < here.high = in_here.high in
+    let is : (slot_at slots found.k).first + (q.index - here.low) ≡ i = found.is in
+    let room : (slot_at slots found.k).first + (here.high - here.low) ≤ length cells = own.room found.k found.short in
+    let not : in_range r q ≡ false = apart_behind here r q (behind found.k found.short) found.has in
+    ap (cell_by all) (pushed_old slots slot q i at) ∙ kept_cell cells (replicate (length_of r) cell) i cell (omega arith)
+    ∙ sym (ap (cell_by cells) at)
+    ∙ sym (other (in_range r q) (Some cell) (cell_by cells (index_of slots q)) not))
+
+slot_old : (slots : List Slot) (slot : Slot) (k : ℕ) → k < length slots → slot_at (slots ++ slot ∷ []) k ≡ slot_at slots k
+slot_old slots slot k short = get_or_append_left slots (slot ∷ []) no_slot k short
+
+slot_new : (slots : List Slot) (slot : Slot) → slot_at (slots ++ slot ∷ []) (length slots) ≡ slot
+slot_new slots slot = get_or_push slots slot no_slot (length slots) refl
+
+-- what holds of each slot and of the new one
+pub each_pushed : (P : Slot → Type 0) (slots : List Slot) (slot : Slot) → ((k : ℕ) → k < length slots → P (slot_at slots k)) → P slot
+    → (k : ℕ) → k < length (slots ++ slot ∷ []) → P (slot_at (slots ++ slot ∷ []) k)
+each_pushed P slots slot each new k short =
+    elim (cases_lt k (length slots)) [
+      | inl l ↦ subst P (sym (slot_old slots slot k l)) (each k l)
+      | inr l ↦
+          let e : length slots ≡ k = omega (arith, length-append slots (slot ∷ [])) in
+          let Q : ℕ → Type 0 = λ n. P (slot_at (slots ++ slot ∷ []) n) in
+          subst Q e (subst P (sym (slot_new slots slot)) new)
+    ]
+
+pub order_pushed : (slots : List Slot) (slot : Slot) → IsInOrder slots → slot.range.low ≤ slot.range.high → AllBehind slots slot.range
+    → IsInOrder (slots ++ slot ∷ [])
+order_pushed slots slot order proper behind = record {
+  proper = each_pushed (λ (s : Slot). s.range.low ≤ s.range.high) slots slot order.proper proper;
+  order = λ j k before short.
+      let j_short : j < length slots = omega (arith, length-append slots (slot ∷ [])) in
+      let P : Slot → Type 0 = λ s. is_behind s.range (slot_at (slots ++ slot ∷ []) k).range ≡ true in
+      subst P (sym (slot_old slots slot j j_short))
+      (elim (cases_lt k (length slots)) [
+        | inl l ↦
+            let Q : Slot → Type 0 = λ s. is_behind (slot_at slots j).range s.range ≡ true in
+            subst Q (sym (slot_old slots slot k l)) (order.order j k before l)
+        | inr l ↦
+            let e : length slots ≡ k = omega (arith, length-append slots (slot ∷ [])) in
+            let Q : Slot → Type 0 = λ s. is_behind (slot_at slots j).range s.range ≡ true in
+            let R : ℕ → Type 0 = λ n. Q (slot_at (slots ++ slot ∷ []) n) in
+            subst R e (subst Q (sym (slot_new slots slot)) (behind j j_short))
+      ]);
+}
+
+pub cells_pushed : (slots : List Slot) (slot : Slot) (count more : ℕ) → HasCells slots count → slot.first ≡ count
+    → count + length_of slot.range ≤ more → HasCells (slots ++ slot ∷ []) more
+cells_pushed slots slot count more own first room = record {
+  apart = λ j k before short.
+      let j_short : j < length slots = omega (arith, length-append slots (slot ∷ [])) in
+      let P : Slot → Type 0 = λ s. s.first + length_of s.range ≤ (slot_at (slots ++ slot ∷ []) k).first in
+      subst P (sym (slot_old slots slot j j_short))
+      (elim (cases_lt k (length slots)) [
+        | inl l ↦
+            let Q : Slot → Type 0 = λ s. (slot_at slots j).first + length_of (slot_at slots j).range ≤ s.first in
+            subst Q (sym (slot_old slots slot k l)) (own.apart j k before l)
+        | inr l ↦
+            let e : length slots ≡ k = omega (arith, length-append slots (slot ∷ [])) in
+            let Q : Slot → Type 0 = λ s. (slot_at slots j).first + length_of (slot_at slots j).range ≤ s.first in
+            let R : ℕ → Type 0 = λ n. Q (slot_at (slots ++ slot ∷ []) n) in
+            let last : Q slot = omega (arith, own.room j j_short, first) in
+            subst R e (subst Q (sym (slot_new slots slot)) last)
+      ]);
+  room = each_pushed (λ (s : Slot). s.first + length_of s.range ≤ more) slots slot
+      (λ k short. omega (arith, own.room k short, room)) (omega (arith, first, room));
+}
+
+pub cells_more : (slots : List Slot) (count more : ℕ) → HasCells slots count → count ≤ more → HasCells slots more
+cells_more slots count more own long = record {
+  apart = own.apart;
+  room = λ k short. omega (arith, own.room k short, long);
+}
+
+-- ---- cells with 0
+
+abbrev pub blank : Cell
+blank = record { word = 0; lost = false }
+
+pub blank_more : (old cells later : List Cell) (n : ℕ) → cells ≡ old ++ replicate n blank → later ≡ cells ++ blank ∷ []
+    → later ≡ old ++ replicate (n + 1) blank
+blank_more old cells later n before after =
+    after ∙ ap (λ (v : List Cell). v ++ blank ∷ []) before ∙ append_assoc old (replicate n blank) (blank ∷ [])
+    ∙ ap (λ (v : List Cell). old ++ v) (replicate-append-replicate n 1 blank)
+
+-- the table after a push that may have failed
+pub laid_either : (pushed : Bool) (slots later : List Slot) (slot : Slot) (count more : ℕ)
+    → later ≡ (if pushed then slots ++ slot ∷ [] else slots) → IsInOrder slots → HasCells slots count
+    → slot.range.low ≤ slot.range.high → AllBehind slots slot.range → slot.first ≡ count → more ≡ count + length_of slot.range
+    → IsInOrder later × HasCells later more
+laid_either true slots later slot count more is order own proper behind first room =
+    let P : List Slot → Type 0 = λ v. IsInOrder v × HasCells v more in
+    subst P (sym is) (order_pushed slots slot order proper behind, cells_pushed slots slot count more own first (omega (arith, room)))
+laid_either false slots later slot count more is order own proper behind first room =
+    let P : List Slot → Type 0 = λ v. IsInOrder v × HasCells v more in
+    subst P (sym is) (order, cells_more slots count more own (omega (arith, room)))
+
+-- the cells that places have once a range is open
+pub open_cells : (slots later : List Slot) (cells after : List Cell) (r : Range) (first : ℕ) (q : Place) → HasCells slots (length cells)
+    → AllBehind slots r → first ≡ length cells → later ≡ slots ++ record { range = r; first = first } ∷ []
+    → after ≡ cells ++ replicate (length_of r) blank
+    → cell_by after (index_of later q) ≡ (if in_range r q then Some blank else cell_by cells (index_of slots q))
+open_cells slots later cells after r first q own behind at is added =
+    ap (λ (v : List Slot). cell_by after (index_of v q)) is
+    ∙ ap (λ (v : List Cell). cell_by v (index_of (slots ++ record { range = r; first = first } ∷ []) q)) added
+    ∙ ap (λ (n : ℕ). cell_by (cells ++ replicate (length_of r) blank) (index_of (slots ++ record { range = r; first = n } ∷ []) q)) at
+    ∙ opened slots cells r blank q own behind
+
+pub blanks_long : (cells after : List Cell) (n : ℕ) → after ≡ cells ++ replicate n blank → length after ≡ length cells + n
+blanks_long cells after n is =
+    ap length is ∙ length-append cells (replicate n blank) ∙ ap (λ (k : ℕ). length cells + k) (length-replicate n blank)

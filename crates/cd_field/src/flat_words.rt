@@ -1,0 +1,213 @@
+// Words in one flat list: a table of ranges in order says where the word of a place stands.
+ghost use Rattle.std.specs.Prelude.{◌≡◌, ◌++◌, ◌∷◌, [], ◌<◌, ◌≤◌, true, replicate, ◌&&◌, ◌||◌, ◌==◌, false, nat_lt, nat_le, None, Some, IsSome, length, OnOk, IfOk, if◌then◌else◌};
+ghost use Rattle.cd_base.specs.Words.{same_place, in_range};
+ghost use Rattle.cd_tree.specs.Meaning.{written};
+ghost use Rattle.cd_field.specs.Flat.{cell_by, index_of, flat_words, flat_lost, is_behind, slot_at, HasCells, IsInOrder};
+
+use cd_base::{NoMemory, Place, Range};
+use std::alloc::Global;
+
+/// A word, and whether it is away.
+#[derive(Debug, Clone, Copy, PartialEq, Eq)]
+pub(crate) struct Cell {
+    word: u64,
+    lost: bool,
+}
+
+/// A range, and where the word of its first place stands.
+#[derive(Debug, Clone, Copy, PartialEq, Eq)]
+pub(crate) struct Slot {
+    range: Range,
+    first: u32,
+}
+
+/// The words of ranges in order, none of which overlap.
+#[derive(Drop)]
+pub(crate) struct FlatWords {
+    slots: Vec<Slot>,
+    cells: Vec<Cell>,
+    ghost order: { IsInOrder slots.items },
+    ghost room: { HasCells slots.items (length cells.items) },
+}
+
+impl FlatWords {
+    /// No words. It takes no memory.
+    pub(crate) fn new(alloc: Global) -> FlatWords
+        ensures words { (q : _) → flat_words result.slots.items result.cells.items q ≡ None }
+        ensures lost { (q : _) → flat_lost result.slots.items result.cells.items q ≡ false }
+        ensures slots { length result.slots.items ≡ 0 }
+    {
+        FlatWords {
+            slots: Vec::new(alloc),
+            cells: Vec::new(alloc),
+        }
+    }
+
+    /// The word of a place, where it has one, and whether it is away.
+    pub(crate) fn cell(&self, place: Place) -> Option<Cell>
+        ensures { result ≡ cell_by self.now.cells.items (index_of self.now.slots.items place) }
+    {
+        let index = find_index(self.slots.as_slice(), place)?;
+        self.cells.get(index).copied()
+    }
+
+    /// The word of a place that has one.
+    pub(crate) fn word(&self, place: Place) -> u64
+        requires { IsSome (flat_words self.now.slots.items self.now.cells.items place) }
+        ensures { flat_words self.now.slots.items self.now.cells.items place ≡ Some result }
+    {
+        match self.cell(place) {
+            Some(cell) => cell.word,
+            None => unreachable!(),
+        }
+    }
+
+    /// Changes the word of a place that has one, and says whether it is away.
+    pub(crate) fn set(&mut self, place: Place, word: u64, lost: bool)
+        requires { IsSome (flat_words self.old.slots.items self.old.cells.items place) }
+        ensures words { (q : _) → flat_words self.new.slots.items self.new.cells.items q ≡ (if same_place place q then Some word else flat_words self.old.slots.items self.old.cells.items q) }
+        ensures lost { (q : _) → flat_lost self.new.slots.items self.new.cells.items q ≡ (if same_place place q then lost else flat_lost self.old.slots.items self.old.cells.items q) }
+        ensures slots { self.new.slots ≡ self.old.slots }
+    {
+        if let Some(index) = find_index(self.slots.as_slice(), place) {
+            self.cells[index] = Cell { word, lost };
+        }
+    }
+
+    /// Adds the words of a range behind all others. They are 0, and none is away.
+    pub(crate) fn open(&mut self, range: Range) -> Result<(), NoMemory>
+        requires proper { range.low ≤ range.high }
+        requires behind { (k : _) → k < length self.old.slots.items → is_behind (slot_at self.old.slots.items k).range range ≡ true }
+        ensures words { OnOk result ((q : _) → flat_words self.new.slots.items self.new.cells.items q ≡ (if in_range range q then Some 0 else flat_words self.old.slots.items self.old.cells.items q)) }
+        ensures lost { OnOk result ((q : _) → flat_lost self.new.slots.items self.new.cells.items q ≡ (if in_range range q then false else flat_lost self.old.slots.items self.old.cells.items q)) }
+        ensures slots { OnOk result (self.new.slots.items ≡ self.old.slots.items ++ record { range = range; first = length self.old.cells.items } ∷ []) }
+    {
+        let count = self.cells.len();
+        if count > u32::MAX as usize {
+            return Err(NoMemory);
+        }
+        add_blanks(&mut self.cells, range.high - range.low)?;
+        self.slots.push(Slot {
+            range,
+            first: count as u32,
+        })?;
+        Ok(())
+    }
+
+    /// The word of a place is away.
+    fn mark(&mut self, place: Place)
+        requires { IsSome (flat_words self.old.slots.items self.old.cells.items place) }
+        ensures words { (q : _) → flat_words self.new.slots.items self.new.cells.items q ≡ flat_words self.old.slots.items self.old.cells.items q }
+        ensures lost { (q : _) → flat_lost self.new.slots.items self.new.cells.items q ≡ (same_place place q || flat_lost self.old.slots.items self.old.cells.items q) }
+        ensures slots { self.new.slots ≡ self.old.slots }
+    {
+        let word = self.word(place);
+        self.set(place, word, true);
+    }
+
+    /// The words of a range are away.
+    pub(crate) fn mark_range(&mut self, range: Range)
+        requires { (q : _) → in_range range q ≡ true → IsSome (flat_words self.old.slots.items self.old.cells.items q) }
+        ensures words { (q : _) → flat_words self.new.slots.items self.new.cells.items q ≡ flat_words self.old.slots.items self.old.cells.items q }
+        ensures lost { (q : _) → flat_lost self.new.slots.items self.new.cells.items q ≡ (in_range range q || flat_lost self.old.slots.items self.old.cells.items q) }
+    {
+        for index in range.low..range.high {
+            self.mark(Place {
+                region: range.region,
+                index,
+            });
+        }
+    }
+
+    /// The word of a place becomes that of others, and is here.
+    fn take(&mut self, others: &FlatWords, place: Place)
+        requires known { IsSome (flat_words self.old.slots.items self.old.cells.items place) }
+        requires given { IsSome (flat_words others.now.slots.items others.now.cells.items place) }
+        ensures words { (q : _) → flat_words self.new.slots.items self.new.cells.items q ≡ written (same_place place) (flat_words others.now.slots.items others.now.cells.items) (flat_words self.old.slots.items self.old.cells.items) q }
+        ensures lost { (q : _) → flat_lost self.new.slots.items self.new.cells.items q ≡ (if same_place place q then false else flat_lost self.old.slots.items self.old.cells.items q) }
+        ensures slots { self.new.slots ≡ self.old.slots }
+    {
+        let word = others.word(place);
+        self.set(place, word, false);
+    }
+
+    /// The words of a range become those of others, and are here.
+    pub(crate) fn take_range(&mut self, others: &FlatWords, range: Range)
+        requires known { (q : _) → in_range range q ≡ true → IsSome (flat_words self.old.slots.items self.old.cells.items q) }
+        requires given { (q : _) → in_range range q ≡ true → IsSome (flat_words others.now.slots.items others.now.cells.items q) }
+        ensures words { (q : _) → flat_words self.new.slots.items self.new.cells.items q ≡ written (in_range range) (flat_words others.now.slots.items others.now.cells.items) (flat_words self.old.slots.items self.old.cells.items) q }
+        ensures lost { (q : _) → flat_lost self.new.slots.items self.new.cells.items q ≡ (if in_range range q then false else flat_lost self.old.slots.items self.old.cells.items q) }
+        ensures slots { self.new.slots ≡ self.old.slots }
+    {
+        for index in range.low..range.high {
+            self.take(
+                others,
+                Place {
+                    region: range.region,
+                    index,
+                },
+            );
+        }
+    }
+}
+
+const BLANK: Cell = Cell {
+    word: 0,
+    lost: false,
+};
+
+// Adds cells with 0.
+fn add_blanks(cells: &mut Vec<Cell>, count: u32) -> Result<(), NoMemory>
+    ensures added { OnOk result (cells.new.items ≡ cells.old.items ++ replicate count (record { word = 0; lost = false })) }
+    ensures grown { length cells.old.items ≤ length cells.new.items }
+{
+    for _added in 0..count {
+        cells.push(BLANK)?;
+    }
+    Ok(())
+}
+
+// Where the word of a place stands. The first look is at the slot of the region's number, which is the right one where
+// each region is whole; after that half of what is left goes at each look.
+fn find_index(slots: &[Slot], place: Place) -> Option<usize>
+    requires { IsInOrder slots.now }
+    ensures { result ≡ index_of slots.now place }
+{
+    let mut low = 0;
+    let mut high = slots.len();
+    while low < high {
+        let middle = look_at(place.region as usize, low, high);
+        let slot = slots[middle];
+        if ends_before(slot.range, place) {
+            low = middle + 1;
+        } else if begins_behind(slot.range, place) {
+            high = middle;
+        } else {
+            return Some(slot.first as usize + (place.index - slot.range.low) as usize);
+        }
+    }
+    None
+}
+
+fn look_at(guess: usize, low: usize, high: usize) -> usize
+    requires { low < high }
+    ensures { (low ≤ result) × (result < high) }
+{
+    if low <= guess && guess < high {
+        guess
+    } else {
+        low + (high - low) / 2
+    }
+}
+
+fn ends_before(range: Range, place: Place) -> bool
+    ensures { result ≡ (nat_lt range.region place.region || ((range.region == place.region) && nat_le range.high place.index)) }
+{
+    range.region < place.region || (range.region == place.region && range.high <= place.index)
+}
+
+fn begins_behind(range: Range, place: Place) -> bool
+    ensures { result ≡ (nat_lt place.region range.region || ((range.region == place.region) && nat_lt place.index range.low)) }
+{
+    place.region < range.region || (range.region == place.region && place.index < range.low)
+}

@@ -1,0 +1,188 @@
+ghost use Rattle.std.specs.Prelude.{◌≡◌, []};
+ghost use Rattle.cd_field.specs.Machine.{loaded};
+ghost use Rattle.cd_field.specs.FlatMachine.{flat_machine};
+
+use crate::Field;
+use crate::event_list::EventList;
+use crate::flat_parts::{first_flat, flat_part, mark_ranges, strike_flat, take_ranges, union_of};
+use crate::flat_words::FlatWords;
+use cd_base::{NoMemory, Place, Places, Range};
+use cd_tree::{Event, Fault, Kept, Kinds, NodeId, Regions, Script};
+use std::alloc::Global;
+
+/// The shipped machine: its words stand in one flat list, with a table of its ranges, and its record in parts that are
+/// never copied.
+#[derive(Drop)]
+pub struct ScriptField {
+    words: FlatWords,
+    events: EventList,
+    notes: Kinds,
+    script: Vec<Fault>,
+    node: NodeId,
+    begin: u64,
+    carved: Vec<Range>,
+    alloc: Global,
+}
+
+impl ScriptField {
+    /// The machine as it is loaded from no regions and no faults. It takes no memory.
+    pub fn empty(alloc: Global) -> ScriptField
+        ensures { flat_machine result ≡ loaded [] [] }
+    {
+        ScriptField {
+            words: FlatWords::new(alloc),
+            events: EventList::new(alloc),
+            notes: Kinds::none(),
+            script: Vec::new(alloc),
+            node: NodeId(0),
+            begin: 0,
+            carved: Vec::new(alloc),
+            alloc,
+        }
+    }
+}
+
+impl Field for ScriptField {
+    ghost use Rattle.cd_field.specs.FlatMachine.{flat_machine};
+
+    ghost state = { flat_machine };
+
+    fn load(&mut self, regions: &Regions, script: &Script) -> Result<(), NoMemory> {
+        let words = first_flat(self.alloc, regions.items())?;
+        let script = script.items().to_vec(self.alloc)?;
+        let mut field = ScriptField::empty(self.alloc);
+        field.words = words;
+        field.script = script;
+        *self = field;
+        Ok(())
+    }
+
+    fn begin(&mut self, node: NodeId, number: u64) -> Result<(), NoMemory> {
+        self.events.push(Event::Begin { node, number })?;
+        self.notes = Kinds::none();
+        self.node = node;
+        self.begin = number;
+        Ok(())
+    }
+
+    fn read(&self, place: Place) -> u64 {
+        self.words.word(place)
+    }
+
+    fn write(&mut self, place: Place, word: u64) {
+        self.words.set(place, word, false);
+    }
+
+    fn refill(&mut self, place: Place, word: u64) {
+        self.words.set(place, word, false);
+    }
+
+    fn reached(&mut self, point: u32) -> Result<(), NoMemory> {
+        let node = self.node;
+        self.events.push(Event::Reached { node, point })?;
+        let kinds = strike_flat(
+            &mut self.words,
+            self.script.as_slice(),
+            node,
+            self.begin,
+            point,
+        );
+        self.notes = self.notes.union(kinds);
+        Ok(())
+    }
+
+    fn notes(&self) -> Kinds {
+        self.notes
+    }
+
+    fn saved(&mut self, entry: u32, how: Kept) -> Result<(), NoMemory> {
+        let node = self.node;
+        self.events.push(Event::Saved { node, entry, how })?;
+        Ok(())
+    }
+
+    fn fell(&mut self, entry: u32, place: Place, wanted: u64) -> Result<(), NoMemory> {
+        let node = self.node;
+        let found = self.read(place);
+        self.events.push(Event::Fell {
+            node,
+            entry,
+            place,
+            wanted,
+            found,
+        })?;
+        Ok(())
+    }
+
+    fn lapsed(&mut self, entry: u32, seen: u64, found: u64) -> Result<(), NoMemory> {
+        let node = self.node;
+        self.events.push(Event::Lapsed {
+            node,
+            entry,
+            seen,
+            found,
+        })?;
+        Ok(())
+    }
+
+    fn refilled(&mut self, entry: u32) -> Result<(), NoMemory> {
+        let node = self.node;
+        self.events.push(Event::Refilled { node, entry })?;
+        Ok(())
+    }
+
+    fn halted(&mut self, kinds: Kinds) -> Result<(), NoMemory> {
+        let node = self.node;
+        self.events.push(Event::Halted { node, kinds })?;
+        Ok(())
+    }
+
+    fn found(&mut self, kinds: Kinds) -> Result<(), NoMemory> {
+        let node = self.node;
+        self.events.push(Event::Found { node, kinds })?;
+        Ok(())
+    }
+
+    fn complete(&mut self) -> Result<(), NoMemory> {
+        let node = self.node;
+        self.events.push(Event::Complete { node })?;
+        Ok(())
+    }
+
+    fn escalate(&mut self) -> Result<(), NoMemory> {
+        let node = self.node;
+        self.events.push(Event::Escalate { node })?;
+        self.notes = Kinds::none();
+        Ok(())
+    }
+
+    fn carve(&mut self, reads: &Places, writes: &Places) -> Result<Self, NoMemory> {
+        let reach = union_of(self.alloc, reads, writes)?;
+        let mut part = ScriptField::empty(self.alloc);
+        part.words = flat_part(self.alloc, &self.words, reach.ranges())?;
+        part.script = self.script.clone()?;
+        part.carved = writes.ranges().to_vec(self.alloc)?;
+        mark_ranges(&mut self.words, writes.ranges());
+        Ok(part)
+    }
+
+    fn absorb(&mut self, child: Self, commit: bool) -> Result<(), NoMemory> {
+        let ScriptField {
+            words,
+            events,
+            notes,
+            carved,
+            ..
+        } = child;
+        self.events.append(events)?;
+        if commit {
+            take_ranges(&mut self.words, &words, carved.as_slice());
+            self.notes = self.notes.union(notes);
+        }
+        Ok(())
+    }
+
+    fn event(&self, k: u64) -> Option<Event> {
+        self.events.get(k)
+    }
+}
