@@ -11,10 +11,6 @@ use Rattle.cd_base.specs.Ends.{Rose, WriteAll}
 use Rattle.cd_tree.specs.declared.domain.Domain.{Domain}
 use Rattle.cd_tree.specs.declared.domain.Entry.{Entry}
 use Rattle.cd_tree.specs.declared.domain.How.TheVariants as how
-use Rattle.cd_tree.specs.declared.domain.Item.{Item}
-use Rattle.cd_tree.specs.declared.domain.Item.TheVariants.{Run, Group}
-use Rattle.cd_tree.specs.declared.operation.Op.{Op}
-use Rattle.cd_tree.specs.declared.operation.Op.TheVariants.{Fill, Copy, Add, Sub, Mul, Axpy, Scan, Sum, Dot, Max, Stencil, Spmv}
 use Rattle.cd_tree.specs.declared.document.Region.{Region}
 use Rattle.cd_tree.specs.declared.document.Document.{Document}
 use Rattle.cd_tree.specs.declared.event.Cause.{Cause}
@@ -25,12 +21,12 @@ use Rattle.cd_tree.specs.Laws.{WordsStay}
 use Rattle.cd_tree.specs.Meaning.{initial, initial_word}
 use Rattle.cd_tree.specs.Reading.{NodeEnd, Done as Completed, Escalated}
 use Rattle.cd_field.specs.Machine.{Machine, IsPresent}
-use Rattle.cd_core.specs.Single.{IsSimple, IsFillOrAdd, RunsFillsAndAdds}
+use Rattle.cd_core.specs.Single.{IsSimple}
 use Rattle.cd_report.specs.Texts.{usage_line, fault_line, CanBeNamed}
 use Rattle.cd_app.specs.declared.status.Status.{Status}
 use Rattle.cd_app.specs.declared.status.Status.TheVariants.{Usage, Refused, ReadFault}
 use Rattle.cd_app.specs.OneDomain.{Reads, Refuses, parse}
-use Rattle.cd_app.specs.Sound.{IsOneDomain, IsCopied, IsStep, IsPlain}
+use Rattle.cd_app.specs.Sound.{IsOneDomain, IsCopied}
 use Rattle.cd_app.specs.Running.{HasCommand, TookAll, IsRefused, words_at_end, reading_of, cause_in, report_of, HoldsRun, Call, Gives, Written, Whole, InPart, CutShort, status_of, Meets, status_said, MeetsRefusal, MeetsDocument, MeetsText}
 use Rattle.cd_app.proofs.ReadingLemmas.{refused_line}
 
@@ -45,37 +41,15 @@ copies_all regions [] each k d short = absurd (omega arith)
 copies_all regions (entry ∷ entries) each zero d short = each.0.0
 copies_all regions (entry ∷ entries) each (suc k) d short = copies_all regions entries each.1 k d (omega (arith, short))
 
-plain_is_known : (regions : List Region) (entries : List Entry) (op : Op) → IsPlain regions entries op → IsFillOrAdd op
-plain_is_known regions entries (Fill d word) plain = tt
-plain_is_known regions entries (Add d x z) plain = tt
-plain_is_known regions entries (Copy d x) plain = absurd plain
-plain_is_known regions entries (Sub d x z) plain = absurd plain
-plain_is_known regions entries (Mul d x z) plain = absurd plain
-plain_is_known regions entries (Axpy d k x) plain = absurd plain
-plain_is_known regions entries (Scan d x) plain = absurd plain
-plain_is_known regions entries (Sum d x) plain = absurd plain
-plain_is_known regions entries (Dot d x z) plain = absurd plain
-plain_is_known regions entries (Max d x) plain = absurd plain
-plain_is_known regions entries (Stencil d a b c x) plain = absurd plain
-plain_is_known regions entries (Spmv d s c v x) plain = absurd plain
-
-items_known : (regions : List Region) (entries : List Entry) (items : List Item) → AllByRecursion (IsStep regions entries) items → RunsFillsAndAdds items
-items_known regions entries [] each = tt
-items_known regions entries (Run op ∷ items) each = (plain_is_known regions entries op each.0, items_known regions entries items each.1)
-items_known regions entries (Group ids ∷ items) each = absurd each.0
-
 -- the engine runs every document of one domain
 pub simple : (document : Document) → IsOneDomain document → IsSimple document.tree
 simple document one =
     let P : List Domain → Type 0 = λ ds. All (λ (d : Domain). All (λ (entry : Entry). entry.how ≡ how.Copy) d.entries) ds in
-    let Q : List Domain → Type 0 = λ ds. All (λ (d : Domain). RunsFillsAndAdds d.items) ds in
     record {
       one = ap (λ (ds : List Domain). length ds) one.domains;
       copies = subst P (sym one.domains) (all_of_one (λ (d : Domain). All (λ (entry : Entry). entry.how ≡ how.Copy) d.entries) one.root
           (copies_all document.regions one.root.entries one.entries));
       quiet = one.halts;
-      known = subst Q (sym one.domains) (all_of_one (λ (d : Domain). RunsFillsAndAdds d.items) one.root
-          (items_known document.regions one.root.entries one.root.items one.items));
       covered = one.covered;
     }
 

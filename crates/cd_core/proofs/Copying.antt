@@ -9,9 +9,7 @@ use Rattle.cd_tree.specs.Meaning.{in_entries}
 use Rattle.cd_tree.specs.Operations.{length_of}
 use Rattle.cd_field.specs.Machine.{Machine, told, refilled_word}
 use Rattle.cd_core.specs.Copies.{place_at, words_from, put_back, restored_from, AreCopies}
-use Rattle.cd_core.proofs.Sums.{or_left, or_right}
-use Rattle.cd_core.proofs.Places.{by_test}
-use Rattle.cd_core.proofs.Columns.{chosen, other}
+use Rattle.cd_core.proofs.Places.{or_left, or_right, by_test, chosen, other}
 
 -- one word more is copied
 pub word_copied : (w : Words) (region index high word : ℕ) (words all : List ℕ) → index < high

@@ -16,7 +16,7 @@ use Rattle.cd_tree.specs.declared.event.Cause.{Cause}
 use Rattle.cd_tree.specs.KindSets.{no_kinds, has_kind, halting}
 use Rattle.cd_tree.specs.Operations.{IsFull}
 use Rattle.cd_tree.specs.Domains.{Node, node, body_by, root_of, node_of, domain_of}
-use Rattle.cd_tree.specs.Outlines.{Outline, IsTree, FitsDomain, FitsItems, EachFits}
+use Rattle.cd_tree.specs.Outlines.{Outline, IsTree, FitsDomain, FitsItems, NamesChildren, EachFits}
 use Rattle.cd_tree.specs.Meaning.{in_entries, IsCovered, CoversBody, node_reach, node_meaning}
 use Rattle.cd_tree.specs.Scripts.{IsAccepted, IsDetectable, path_of, path_under}
 use Rattle.cd_tree.specs.Laws.{EndsClean, CoveredReach}
@@ -24,9 +24,8 @@ use Rattle.cd_tree.specs.Reading.{Counts, no_begins, silence, only_events, Told,
 use Rattle.cd_tree.specs.Record.{reading, cause_of}
 use Rattle.cd_field.specs.Machine.{Machine, IsPresent, begun, gone_up, told as told_to}
 use Rattle.cd_core.specs.Copies.{copies_of, restored_from, AreCopies, told_all}
-use Rattle.cd_core.specs.Single.{Leads, IsSimple, RunsFillsAndAdds, quiet_case, plain_body, root_id, root_try, root_again, root_reading, machine_after, words_after, StaysWithin, CanRun, IsReady, IsTried, EndsWith}
-use Rattle.cd_core.proofs.Places.{not_true}
-use Rattle.cd_core.proofs.Sums.{or_left}
+use Rattle.cd_core.specs.Single.{Leads, IsSimple, quiet_case, plain_body, root_id, root_try, root_again, root_reading, machine_after, words_after, StaysWithin, CanRun, IsReady, IsTried, EndsWith}
+use Rattle.cd_core.proofs.Places.{not_true, or_left}
 use Rattle.cd_core.proofs.Restoring.{restored-frame, restored-words, restored-lost, restored-events, copies_fit}
 use Rattle.cd_core.proofs.Following.{leads_after, tries_lead}
 
@@ -43,20 +42,29 @@ reading_is tree faults domain one quiet =
     ap (λ (halts : ℕ). read_node (record { halts = halts; faults = faults }) (root_of tree.domains) no_begins) quiet
     ∙ ap (λ (ds : List Domain). read_node (quiet_case faults) (root_of ds) no_begins) one
 
+-- one domain alone has no later one
+none_later : (domain : Domain) (P : Domain → Type 0) (n : ℕ) → 0 < n → IsSomeAnd (slice_get (domain ∷ []) n) P → ⊥
+none_later domain P zero later there = absurd (omega arith)
+none_later domain P (suc n) later there = there
+
+-- so it has no groups, whose members would be later domains
+no_members : (domain : Domain) (ids : List NodeId) → 0 < length ids → NamesChildren (domain ∷ []) 0 ids → ⊥
+no_members domain [] some names = absurd (omega arith)
+no_members domain (id ∷ ids) some names = none_later domain (λ child. child.parent ≡ Some (record { 0 = 0 })) id.0 names.0 names.1
+
 -- the items of a program of one domain
-items_stay : (domains : List Domain) (entries : List Entry) (find : NodeId → Option Node) (items : List Item)
-    → RunsFillsAndAdds items → FitsItems domains 0 items → CoversBody (in_entries entries) (body_by find items) → StaysWithin entries items
-items_stay domains entries find [] known fits covered = tt
-items_stay domains entries find (Run op ∷ items) known fits covered =
-    ((known.0, fits.0, fits.1, covered.0), items_stay domains entries find items known.1 fits.2 covered.1)
-items_stay domains entries find (Group ids ∷ items) known fits covered = absurd known
+items_stay : (domain : Domain) (entries : List Entry) (find : NodeId → Option Node) (items : List Item)
+    → FitsItems (domain ∷ []) 0 items → CoversBody (in_entries entries) (body_by find items) → StaysWithin entries items
+items_stay domain entries find [] fits covered = tt
+items_stay domain entries find (Run op ∷ items) fits covered =
+    ((fits.0, fits.1, covered.0), items_stay domain entries find items fits.2 covered.1)
+items_stay domain entries find (Group ids ∷ items) fits covered = absurd (no_members domain ids fits.0 fits.2)
 
 -- what is known of the one domain of a simple program
 pub record IsRunnable (domain : Domain) : Type 0 where
   pub tries : 0 < domain.retry
   pub orphan : domain.parent ≡ None
   pub full : All (λ (entry : Entry). IsFull entry.range) domain.entries
-  pub known : RunsFillsAndAdds domain.items
   pub covered : CoversBody (in_entries domain.entries) (plain_body domain)
   pub stays : StaysWithin domain.entries domain.items
 
@@ -64,8 +72,7 @@ pub runnable : (tree : Outline) (domain : Domain) → tree.domains ≡ domain �
 runnable tree domain one is_tree simple =
     let P : List Domain → Type 0 = λ ds. EachFits tree.kinds tree.domains 0 ds in
     let fits : FitsDomain tree.kinds tree.domains 0 domain = (subst P one is_tree.each).0 in
-    let Q : List Domain → Type 0 = λ ds. All (λ (d : Domain). RunsFillsAndAdds d.items) ds in
-    let known : RunsFillsAndAdds domain.items = subst Q one simple.known 0 domain (omega arith) in
+    let Q : List Domain → Type 0 = λ ds. FitsItems ds 0 domain.items in
     let R : List Domain → Type 0 = λ ds. IsCovered (root_of ds) in
     let covered : CoversBody (in_entries domain.entries) (plain_body domain) = subst R one simple.covered in
     let S : List Domain → Type 0 = λ ds. IsSomeAnd (slice_get ds 0) (λ d. d.parent ≡ None) in
@@ -73,9 +80,8 @@ runnable tree domain one is_tree simple =
       tries = fits.tries;
       orphan = subst S one is_tree.root;
       full = fits.ranges;
-      known = known;
       covered = covered;
-      stays = items_stay tree.domains domain.entries (λ id. None) domain.items known fits.items covered;
+      stays = items_stay domain domain.entries (λ id. None) domain.items (subst Q one fits.items) covered;
     }
 
 -- the script of an accepted program strikes in the entries of its one domain, with kinds
@@ -248,6 +254,17 @@ run_starts law tree domain was b m entries one runs present accepted fresh b_is 
       strikes = strikes_within law tree domain was.script one runs accepted;
     } in
     (subst P (sym m_exactly) can, first_ready domain was m fresh m_exactly)
+
+-- when the one domain has begun, its entries are present
+pub present_begun : (tree : Outline) (domain : Domain) (was b : Machine) (entries : List Entry) → tree.domains ≡ domain ∷ []
+    → ((p : Place) → node_reach (root_of tree.domains) p ≡ true → IsPresent was p)
+    → b ≡ begun was root_id 1 → entries ≡ domain.entries
+    → (p : Place) → in_entries entries p ≡ true → IsPresent b p
+present_begun tree domain was b entries one present b_is entries_are p h =
+    let P : List Entry → Type 0 = λ es. in_entries es p ≡ true in
+    let there : IsPresent was p = present p (entries_reached tree domain p one (subst P entries_are h)) in
+    let Q : Machine → Type 0 = λ v. IsPresent v p in
+    subst Q (sym b_is) (record { known = there.known; here = there.here })
 
 -- the entries of the one domain were present
 pub entries_present : (tree : Outline) (domain : Domain) (was : Machine) → tree.domains ≡ domain ∷ []

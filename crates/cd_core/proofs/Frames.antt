@@ -20,9 +20,7 @@ use Rattle.cd_tree.specs.Scripts.{words_struck, kinds_of}
 use Rattle.cd_field.specs.Machine.{Machine, hits_at, reached_point}
 use Rattle.cd_core.specs.Copies.{place_at}
 use Rattle.cd_core.specs.Single.{item_run, run_from, StaysWithin, CanRun}
-use Rattle.cd_core.proofs.Places.{same_from, not_true}
-use Rattle.cd_core.proofs.Columns.{chosen, other}
-use Rattle.cd_core.proofs.Sums.{or_left}
+use Rattle.cd_core.proofs.Places.{same_from, not_true, chosen, other, or_left}
 use Rattle.cd_core.proofs.Points.{hits_within, runs_reached, runs_on}
 
 -- a try changes words, events and notes alone
@@ -71,7 +69,7 @@ run-outside entries m point [] p out runs stays =
 run-outside entries m point (Run op ∷ items) p out runs stays =
     run-outside entries (item_run (reached_point m point) (Run op)) (suc point) items p out
     (runs_on entries (reached_point m point) (Run op) (runs_reached entries m point runs)) stays.1
-    ∙ meant-outside entries op (reached_point m point).words p out stays.0.3
+    ∙ meant-outside entries op (reached_point m point).words p out stays.0.2
     ∙ struck-outside entries (hits_at m point) m.words p out (hits_within entries m point runs)
 run-outside entries m point (Group ids ∷ items) p out runs stays = absurd stays.0
 

@@ -1,6 +1,4 @@
 pub mod Places
-pub mod Columns
-pub mod Sums
 pub mod Copying
 pub mod Points
 pub mod Frames

@@ -3,19 +3,18 @@ use Rattle.std.proofs.Common.{◌≡◌, ℕ, ◌+◌, ◌-◌, ◌<◌, true, �
 use Rattle.std.proofs.lemmas.List.Elements.{All-filter, filter_passes}
 use Rattle.std.proofs.lemmas.Bool.{and_parts, eqb-true}
 use Rattle.cd_base.specs.declared.place.Place.{Place}
-use Rattle.cd_base.specs.Words.{Words, in_range, in_ranges, word_at, same_place, struck_word}
+use Rattle.cd_base.specs.Words.{Words, in_range, word_at, same_place, struck_word}
 use Rattle.cd_tree.specs.declared.domain.Entry.{Entry}
 use Rattle.cd_tree.specs.declared.domain.Item.{Item}
 use Rattle.cd_tree.specs.declared.domain.Item.TheVariants.{Run, Group}
 use Rattle.cd_tree.specs.declared.document.Fault.{Fault}
 use Rattle.cd_tree.specs.declared.operation.Op.{Op}
-use Rattle.cd_tree.specs.Meaning.{in_entries, LieIn}
-use Rattle.cd_tree.specs.Operations.{op_writes, op_reads, op_meaning, column}
+use Rattle.cd_tree.specs.Meaning.{in_entries}
+use Rattle.cd_tree.specs.Operations.{op_writes, op_meaning, column}
 use Rattle.cd_tree.specs.Scripts.{strikes_at, words_struck}
-use Rattle.cd_field.specs.Machine.{Machine, IsPresent, ArePresent, hits_at, reached_point}
+use Rattle.cd_field.specs.Machine.{Machine, IsPresent, hits_at, reached_point}
 use Rattle.cd_core.specs.Single.{item_run, run_from, ItemStaysWithin, StaysWithin, CanRun}
-use Rattle.cd_core.proofs.Places.{by_test}
-use Rattle.cd_core.proofs.Columns.{chosen, other}
+use Rattle.cd_core.proofs.Places.{by_test, chosen, other}
 
 -- a strike leaves no place without a word
 pub struck-known : (faults : List Fault) (w : Words) (p : Place) → IsSome (w p) → IsSome (words_struck faults w p)
@@ -69,12 +68,6 @@ runs_on entries m (Run op) runs = record {
   strikes = runs.strikes;
 }
 runs_on entries m (Group ids) runs = runs
-
--- an operation that stays within the entries finds its places present
-pub op_present : (entries : List Entry) (m : Machine) (op : Op)
-    → LieIn (in_ranges (op_writes op ∷ op_reads op)) (in_entries entries) → CanRun entries m
-    → ArePresent m (op_writes op ∷ op_reads op)
-op_present entries m op lies runs p h = runs.present p (lies p h)
 
 -- one item more is run
 pub item_passed : (m reached ran whole : Machine) (k : ℕ) (items : List Item) (item : Item)

@@ -13,9 +13,7 @@ use Rattle.cd_tree.specs.Reading.{refilled_from}
 use Rattle.cd_field.specs.Machine.{Machine, IsPresent, told, refilled_word}
 use Rattle.cd_core.specs.Copies.{place_at, words_from, words_of, copies_of, put_back, restored_from, AreCopies}
 use Rattle.cd_core.specs.Single.{CanRun}
-use Rattle.cd_core.proofs.Places.{Inside, inside_from, inside_to, same_from, same_to, by_test, not_true}
-use Rattle.cd_core.proofs.Columns.{chosen, other}
-use Rattle.cd_core.proofs.Sums.{or_left, or_right}
+use Rattle.cd_core.proofs.Places.{Inside, inside_from, inside_to, same_from, same_to, by_test, not_true, chosen, other, or_left, or_right}
 use Rattle.cd_core.proofs.Copying.{put_back-node}
 
 -- putting words back changes words and what is lost alone

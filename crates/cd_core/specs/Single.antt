@@ -8,18 +8,17 @@ use Rattle.cd_tree.specs.declared.domain.Entry.{Entry}
 use Rattle.cd_tree.specs.declared.domain.Item.{Item}
 use Rattle.cd_tree.specs.declared.domain.Item.TheVariants.{Run, Group}
 use Rattle.cd_tree.specs.declared.domain.Domain.{Domain}
-use Rattle.cd_tree.specs.declared.operation.Op.{Op}
-use Rattle.cd_tree.specs.declared.operation.Op.TheVariants.{Fill, Add}
 use Rattle.cd_tree.specs.declared.document.Fault.{Fault}
 use Rattle.cd_tree.specs.declared.event.Event.{Event}
 use Rattle.cd_tree.specs.declared.event.Event.TheVariants.{Found}
 use Rattle.cd_tree.specs.KindSets.{no_kinds, halting}
-use Rattle.cd_tree.specs.Operations.{op_reads, op_writes, op_meaning, FitsShape, IsFull}
+use Rattle.cd_tree.specs.Operations.{op_reads, op_writes, FitsShape, IsFull}
 use Rattle.cd_tree.specs.Domains.{Body, node, body_by, root_of}
 use Rattle.cd_tree.specs.Outlines.{Outline}
 use Rattle.cd_tree.specs.Meaning.{in_entries, LieIn, IsCovered, node_meaning}
 use Rattle.cd_tree.specs.Reading.{Told, NodeEnd, Done, Escalated, Case, Counts, no_begins, Try, TryEnd, read_node, read_points, tries, begun as begun_at, told as told_of, silence, judged}
 use Rattle.cd_field.specs.Machine.{Machine, IsPresent, told, begun, reached_point}
+use Rattle.cd_kernel.specs.Computing.{computed}
 use Rattle.cd_core.specs.Copies.{restored_from}
 
 -- every entry is preserved by a copy
@@ -30,26 +29,11 @@ OnlyCopies tree = All (λ (domain : Domain). All (λ (entry : Entry). entry.how 
 abbrev pub NeverHalts : Outline → Type 0
 NeverHalts tree = halting tree.kinds ≡ no_kinds
 
-abbrev pub IsFillOrAdd : Op → Type 0
-IsFillOrAdd (Fill d k) = Unit {0}
-IsFillOrAdd (Add d x z) = Unit {0}
-IsFillOrAdd _ = ⊥
-
-abbrev pub RunsFillsAndAdds : List Item → Type 0
-RunsFillsAndAdds [] = Unit {0}
-RunsFillsAndAdds (Run op ∷ items) = IsFillOrAdd op × RunsFillsAndAdds items
-RunsFillsAndAdds (Group ids ∷ items) = ⊥
-
--- each item is a `fill` or an `add`
-abbrev pub OnlyFillsAndAdds : Outline → Type 0
-OnlyFillsAndAdds tree = All (λ (domain : Domain). RunsFillsAndAdds domain.items) tree.domains
-
--- what the first engine runs: one domain, whose entries are copies, whose kinds never halt, whose items it knows
+-- what the first engine runs: one domain that is covered, whose entries are copies and whose kinds never halt
 pub record IsSimple (tree : Outline) : Type 0 where
   pub one : length tree.domains ≡ 1
   pub copies : OnlyCopies tree
   pub quiet : NeverHalts tree
-  pub known : OnlyFillsAndAdds tree
   pub covered : IsCovered (root_of tree.domains)
 
 abbrev pub root_id : NodeId
@@ -69,10 +53,6 @@ machine_after tree t was = record was {
   node = root_id;
   begin = t.counts 0;
 }
-
--- the machine after an operation
-abbrev pub computed : Machine → Op → Machine
-computed m op = record m { words = op_meaning op m.words }
 
 -- the machine after an item
 abbrev pub item_run : Machine → Item → Machine
@@ -99,7 +79,7 @@ tried m domain = judged_by (run_from m 0 domain.items) domain.detects
 -- an operation has its shape, and touches places of the entries alone
 abbrev pub ItemStaysWithin : List Entry → Item → Type 0
 ItemStaysWithin entries (Run op) =
-    IsFillOrAdd op × All IsFull (op_writes op ∷ op_reads op) × FitsShape op
+    All IsFull (op_writes op ∷ op_reads op) × FitsShape op
     × LieIn (in_ranges (op_writes op ∷ op_reads op)) (in_entries entries)
 ItemStaysWithin entries (Group ids) = ⊥
 

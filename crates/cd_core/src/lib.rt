@@ -2,7 +2,6 @@
 //! and runs again.
 #![tactic(auto)]
 
-mod apply;
 mod copies;
 mod single;
 

@@ -10,10 +10,10 @@ ghost use Rattle.cd_field.specs.Machine.{Machine, IsPresent};
 ghost use Rattle.cd_core.specs.Copies.{copies_of, AreCopies};
 ghost use Rattle.cd_core.specs.Single.{IsSimple, machine_after, run_from, item_run, tried, ItemStaysWithin, StaysWithin, CanRun, IsReady, EndsWith, root_id, restarted};
 
-use crate::apply::apply;
 use crate::copies::{restore_all, save_all};
 use cd_base::{Items, NoMemory};
 use cd_field::Field;
+use cd_kernel::apply;
 use cd_tree::{Cause, Domain, Item, Kinds, NodeId, Tree, laws};
 use std::alloc::Global;
 

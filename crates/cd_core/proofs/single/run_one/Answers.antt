@@ -10,7 +10,7 @@ use Rattle.cd_field.specs.Machine.{Machine}
 use Rattle.cd_core.specs.Copies.{copies_of, AreCopies, restored_from}
 use Rattle.cd_core.specs.Single.{CanRun, IsReady, EndsWith}
 use Rattle.cd_core.proofs.Restoring.{copies_fit}
-use Rattle.cd_core.proofs.Ends.{only_one, IsRunnable, runnable, run_starts, entries_present, copies_saved, HasEnded, finish_done, finish_escalated}
+use Rattle.cd_core.proofs.Ends.{only_one, IsRunnable, runnable, run_starts, present_begun, entries_present, copies_saved, HasEnded, finish_done, finish_escalated}
 use Rattle.cd_core.proofs.single.run_one.Goals as goal
 
 pub save_all-requires-clause-full : goal.save_all-requires-clause-full
@@ -19,6 +19,19 @@ save_all-requires-clause-full g c =
     let one : c.args.tree.now.domains ≡ domain ∷ [] = only_one _ domain c.requires.simple.one c.node-domain.ensures in
     let P : List Entry → Type 0 = λ es. All (λ (e : Entry). IsFull e.range) es in
     λ _ _. subst P (sym c.items.ensures.value) (runnable c.args.tree.now domain one c.count.ensures.sound c.requires.simple).full
+
+pub save_all-requires-clause-present : goal.save_all-requires-clause-present
+save_all-requires-clause-present g c =
+    let domain : Domain = c.node-domain.result.now in
+    let one : c.args.tree.now.domains ≡ domain ∷ [] = only_one _ domain c.requires.simple.one c.node-domain.ensures in
+    λ _ _. present_begun c.args.tree.now domain (g.F.Field.state c.args.field.now) (g.F.Field.state c.begin.new.self) c.items.result.now
+    one c.requires.present c.in_ok-begin.ensures c.items.ensures.value
+
+pub run_tries-requires-clause-some : goal.run_tries-requires-clause-some
+run_tries-requires-clause-some g c =
+    let domain : Domain = c.node-domain.result.now in
+    let one : c.args.tree.now.domains ≡ domain ∷ [] = only_one _ domain c.requires.simple.one c.node-domain.ensures in
+    λ _ _. (runnable c.args.tree.now domain one c.count.ensures.sound c.requires.simple).tries
 
 pub run_tries-requires-clause-full : goal.run_tries-requires-clause-full
 run_tries-requires-clause-full g c =
