@@ -1,0 +1,9 @@
+pub mod Wrongs
+pub mod Lines
+pub mod Blocks
+pub mod Sums
+pub mod Steps
+pub mod Layouts
+pub mod Cuts
+pub mod Names
+pub mod Kinds
