@@ -1,0 +1,30 @@
+pub mod ParseLemmas
+pub mod SoundWellRead
+mod SoundToldWords
+mod SoundTold
+mod SoundNumbers
+pub mod SoundKeeps
+mod SoundNamedWords
+mod SoundNamed
+mod SoundPlaces
+pub mod SoundReading
+pub mod SoundBodies
+mod SoundStatements
+mod SoundNames
+mod SoundOps
+mod SoundRanges
+mod SoundHeads
+mod SoundGuards
+mod SoundBegins
+mod SoundChanges
+mod SoundDomains
+mod SoundSteps
+mod SoundLists
+mod SoundWalk
+mod WorkedTexts
+mod Worked
+mod WorkedLoops
+mod WorkedLimits
+mod WorkedChoices
+pub mod TurnLemmas
+pub mod DraftLemmas

@@ -1,0 +1,248 @@
+-- All that a draft names is there: the changes of a draft keep it so.
+use Rattle.std.proofs.Common.{◌≡◌, ℕ, zero, suc, ◌+◌, ◌<◌, true, false, List, [], ◌∷◌, ◌++◌, Option, None, Some, length, slice_get, slice_index_or, refl, ap, sym, ◌∙◌, subst, arith, All, inl, inr, bytes_eq}
+use Rattle.std.proofs.lemmas.List.Elements.{All-head, All-tail, All-cons, All-nil, All-append}
+use Rattle.cd_tree.specs.declared.document.Region.{Region}
+use Rattle.cd_tree.specs.declared.document.RawFault.{RawFault}
+use Rattle.cd_tree.specs.declared.domain.NodeId.{NodeId}
+use Rattle.cd_tree.specs.declared.domain.Entry.{Entry}
+use Rattle.cd_tree.specs.declared.domain.Item.{Item}
+use Rattle.cd_tree.specs.declared.domain.Item.TheVariants.{Run, Group}
+use Rattle.cd_tree.specs.declared.domain.Domain.{Domain}
+use Rattle.cd_tree.specs.declared.kinds.KindName.{KindName}
+use Rattle.cd_tree.specs.declared.operation.Op.{Op}
+use Rattle.cd_tree.specs.Operations.{op_reads, op_writes}
+use Rattle.cd_parse.specs.declared.draft.Stage.{Stage}
+use Rattle.cd_parse.specs.declared.draft.Stage.TheVariants.{Start, Kinds, Regions, Root, Closed, Strikes}
+use Rattle.cd_parse.specs.declared.draft.Level.{Level}
+use Rattle.cd_parse.specs.Draft.{Draft, no_draft, is_start, takes_strikes, changed, with_item, with_entry, add_item, add_entry, add_domain, named, named_in, open_group, close_group, close_domain, stage_behind, has_region_named}
+use Rattle.cd_parse.specs.Heads.{domain_named}
+use Rattle.cd_parse.specs.Sound.{IsRangeOf, IsItemOf, IsDomainOf, IsFaultOf, RegionsDiffer, IsNamed}
+use Rattle.cd_parse.proofs.SoundLists.{push_cases, push_length}
+use Rattle.cd_parse.proofs.SoundDomains.{none_passes, bytes_same}
+use Rattle.cd_parse.proofs.SoundPlaces.{range_of_more, place_of_more}
+
+-- all that a draft names is there; before the first statement there is no strike
+pub record Named (draft : Draft) : Type 0 where
+  pub names : IsNamed draft.kinds draft.regions draft.domains draft.faults
+  pub quiet : is_start draft.stage ≡ true → draft.faults ≡ []
+
+pub all_weaker : {X : Type 0} (P Q : X → Type 0) (xs : List X) → ((x : X) → P x → Q x) → All P xs → All Q xs
+all_weaker P Q xs gives all = λ k d within. gives (slice_index_or xs k d) (all k d within)
+
+pub all_pushed : {X : Type 0} (P : X → Type 0) (xs : List X) (x : X) → All P xs → P x → All P (xs ++ x ∷ [])
+all_pushed P xs x all one = All-append P xs (x ∷ []) all (All-cons P x [] one (All-nil P))
+
+pub all_changed : (P : Domain → Type 0) (at : ℕ) (change : Domain → Domain) (domains : List Domain) → ((domain : Domain) → P domain → P (change domain))
+    → All P domains → All P (changed at change domains)
+all_changed P at change [] gives all = all
+all_changed P zero change (first ∷ domains) gives all =
+    All-cons P (change first) domains (gives first (All-head P first domains all)) (All-tail P first domains all)
+all_changed P (suc at) change (first ∷ domains) gives all =
+    All-cons P first (changed at change domains) (All-head P first domains all)
+    (all_changed P at change domains gives (All-tail P first domains all))
+
+pub no_draft_is_named : Named no_draft
+no_draft_is_named =
+    record {
+      names = record {
+        differ = λ i j one other is. absurd (cc);
+        places = All-nil (λ (region : Region). 0 < region.length);
+        in_domains = All-nil (IsDomainOf []);
+        in_faults = All-nil (IsFaultOf [] []);
+      };
+      quiet = λ start. refl;
+    }
+
+-- ---- domains
+
+item_of : (regions : List Region) (item : Item) (domain : Domain) → IsItemOf regions item → IsDomainOf regions domain
+    → IsDomainOf regions (with_item item domain)
+item_of regions item domain one is =
+    record { entries = is.entries; items = all_pushed (IsItemOf regions) domain.items item is.items one }
+
+entry_of_domain : (regions : List Region) (entry : Entry) (domain : Domain) → IsRangeOf regions entry.range → IsDomainOf regions domain
+    → IsDomainOf regions (with_entry entry domain)
+entry_of_domain regions entry domain one is =
+    record { entries = all_pushed (λ (e : Entry). IsRangeOf regions e.range) domain.entries entry is.entries one; items = is.items }
+
+-- the domains of a draft change, and its stage
+pub domains_named : (draft : Draft) (stage : Stage) (domains : List Domain) (levels : List Level) (items preserves : ℕ) → Named draft
+    → (is_start stage ≡ true → is_start draft.stage ≡ true) → All (IsDomainOf draft.regions) domains
+    → Named (record draft { stage = stage; domains = domains; levels = levels; items = items; preserves = preserves })
+domains_named draft stage domains levels items preserves is start all =
+    record {
+      names = record { differ = is.names.differ; places = is.names.places; in_domains = all; in_faults = is.names.in_faults };
+      quiet = λ starts. is.quiet (start starts);
+    }
+
+pub op_named : (draft : Draft) (at : ℕ) (op : Op) → Named draft → All (IsRangeOf draft.regions) (op_writes op ∷ op_reads op)
+    → Named (add_item at (Run op) draft)
+op_named draft at op is known =
+    domains_named draft draft.stage (changed at (with_item (Run op)) draft.domains) draft.levels (draft.items + 1) draft.preserves is (λ s. s)
+    (all_changed (IsDomainOf draft.regions) at (with_item (Run op)) draft.domains (λ domain. item_of draft.regions (Run op) domain known) is.names.in_domains)
+
+pub entry_named : (draft : Draft) (at : ℕ) (entry : Entry) → Named draft → IsRangeOf draft.regions entry.range → Named (add_entry at entry draft)
+entry_named draft at entry is known =
+    domains_named draft draft.stage (changed at (with_entry entry) draft.domains) draft.levels draft.items (draft.preserves + 1) is (λ s. s)
+    (all_changed (IsDomainOf draft.regions) at (with_entry entry) draft.domains (λ domain. entry_of_domain draft.regions entry domain known) is.names.in_domains)
+
+pub group_named : (draft : Draft) (levels : List Level) → Named draft → Named (open_group levels draft)
+group_named draft [] is = is
+group_named draft (level ∷ outer) is =
+    domains_named draft draft.stage draft.domains (record { domain = level.domain; group = Some [] } ∷ outer) (draft.items + 1) draft.preserves is (λ s. s) is.names.in_domains
+
+grouped : (draft : Draft) (at : ℕ) (members : List NodeId) → Named draft
+    → All (IsDomainOf draft.regions) (changed at (with_item (Group members)) draft.domains)
+grouped draft at members is =
+    all_changed (IsDomainOf draft.regions) at (with_item (Group members)) draft.domains (λ domain. item_of draft.regions (Group members) domain tt) is.names.in_domains
+
+pub closed_group_named : (draft : Draft) (at : ℕ) (members : List NodeId) (outer : List Level) → Named draft → Named (close_group at members outer draft)
+closed_group_named draft at members outer is =
+    domains_named draft draft.stage (changed at (with_item (Group members)) draft.domains) (record { domain = at; group = None } ∷ outer) draft.items draft.preserves is
+    (λ s. s) (grouped draft at members is)
+
+no_start_behind : (outer : List Level) (P : Type 0) → is_start (stage_behind outer) ≡ true → P
+no_start_behind [] P start = absurd (cc)
+no_start_behind (level ∷ outer) P start = absurd (cc)
+
+pub closed_domain_named : (draft : Draft) (outer : List Level) → Named draft → Named (close_domain outer draft)
+closed_domain_named draft outer is =
+    domains_named draft (stage_behind outer) draft.domains outer draft.items draft.preserves is (no_start_behind outer (is_start draft.stage ≡ true)) is.names.in_domains
+
+named_in_parent : (draft : Draft) (group : Option (List NodeId)) (parent : ℕ) (outer : List Level) (id : NodeId) → Named draft
+    → Named (named_in group parent outer id draft)
+named_in_parent draft None parent outer id is =
+    domains_named draft draft.stage (changed parent (with_item (Group (id ∷ []))) draft.domains) draft.levels (draft.items + 1) draft.preserves is (λ s. s)
+    (grouped draft parent (id ∷ []) is)
+named_in_parent draft (Some members) parent outer id is =
+    domains_named draft draft.stage draft.domains (record { domain = parent; group = Some (members ++ id ∷ []) } ∷ outer) draft.items draft.preserves is (λ s. s)
+    is.names.in_domains
+
+named_by_parent : (draft : Draft) (levels : List Level) (id : NodeId) → Named draft → Named (named levels id draft)
+named_by_parent draft [] id is = is
+named_by_parent draft (level ∷ outer) id is = named_in_parent draft level.group level.domain outer id is
+
+begun_named : (draft : Draft) (at : ℕ) (name : List ℕ) (parent : Option NodeId) (tries kinds : ℕ) → Named draft
+    → Named (record draft { stage = Root; domains = draft.domains ++ domain_named name parent tries kinds ∷ []; levels = record { domain = at; group = None } ∷ draft.levels })
+begun_named draft at name parent tries kinds is =
+    let new : Domain = domain_named name parent tries kinds in
+    let fresh : IsDomainOf draft.regions new =
+    record { entries = All-nil (λ (e : Entry). IsRangeOf draft.regions e.range); items = All-nil (IsItemOf draft.regions) } in
+    domains_named draft Root (draft.domains ++ new ∷ []) (record { domain = at; group = None } ∷ draft.levels) draft.items draft.preserves is (λ s. absurd (cc))
+    (all_pushed (IsDomainOf draft.regions) draft.domains new is.names.in_domains fresh)
+
+pub domain_named_is_named : (draft : Draft) (name : List ℕ) (parent : Option NodeId) (tries kinds : ℕ) → Named draft
+    → Named (add_domain (domain_named name parent tries kinds) draft)
+domain_named_is_named draft name parent tries kinds is =
+    begun_named (named draft.levels (record { 0 = length draft.domains }) draft) (length draft.domains) name parent tries kinds
+    (named_by_parent draft draft.levels (record { 0 = length draft.domains }) is)
+
+-- ---- heads
+
+fault_of_more_kinds : (kinds : List KindName) (new : KindName) (regions : List Region) (fault : RawFault) → IsFaultOf kinds regions fault
+    → IsFaultOf (kinds ++ new ∷ []) regions fault
+fault_of_more_kinds kinds new regions fault is =
+    let known : fault.kind.0 < length kinds = is.kind in
+    let size : length (kinds ++ new ∷ []) ≡ suc (length kinds) = push_length kinds new in
+    record { kind = omega arith; place = is.place }
+
+pub kind_named_is_named : (draft : Draft) (new : KindName) → Named draft → Named (record draft { kinds = draft.kinds ++ new ∷ [] })
+kind_named_is_named draft new is =
+    record {
+      names = record {
+        differ = is.names.differ;
+        places = is.names.places;
+        in_domains = is.names.in_domains;
+        in_faults = all_weaker (IsFaultOf draft.kinds draft.regions) (IsFaultOf (draft.kinds ++ new ∷ []) draft.regions) draft.faults
+            (fault_of_more_kinds draft.kinds new draft.regions) is.names.in_faults;
+      };
+      quiet = is.quiet;
+    }
+
+pub started_named : (draft : Draft) (stage : Stage) (version : ℕ) (kinds : List KindName) → Named draft → is_start draft.stage ≡ true
+    → Named (record draft { stage = stage; version = version; kinds = kinds })
+started_named draft stage version kinds is start =
+    let none : draft.faults ≡ [] = is.quiet start in
+    record {
+      names = record {
+        differ = is.names.differ;
+        places = is.names.places;
+        in_domains = is.names.in_domains;
+        in_faults = subst (λ (faults : List RawFault). All (IsFaultOf kinds draft.regions) faults) (sym none) (All-nil (IsFaultOf kinds draft.regions));
+      };
+      quiet = λ _. none;
+    }
+
+domain_of_more : (regions : List Region) (new : Region) (domain : Domain) → IsDomainOf regions domain → IsDomainOf (regions ++ new ∷ []) domain
+domain_of_more regions new domain is =
+    record {
+      entries = all_weaker (λ (e : Entry). IsRangeOf regions e.range) (λ (e : Entry). IsRangeOf (regions ++ new ∷ []) e.range) domain.entries
+          (λ e. range_of_more regions new e.range) is.entries;
+      items = all_weaker (IsItemOf regions) (IsItemOf (regions ++ new ∷ [])) domain.items (item_of_more regions new) is.items;
+    }
+  where
+    item_of_more : (regions : List Region) (new : Region) (item : Item) → IsItemOf regions item → IsItemOf (regions ++ new ∷ []) item
+    item_of_more regions new (Run op) is =
+        all_weaker (IsRangeOf regions) (IsRangeOf (regions ++ new ∷ [])) (op_writes op ∷ op_reads op) (range_of_more regions new) is
+    item_of_more regions new (Group ids) is = tt
+
+fault_of_more_regions : (kinds : List KindName) (regions : List Region) (new : Region) (fault : RawFault) → IsFaultOf kinds regions fault
+    → IsFaultOf kinds (regions ++ new ∷ []) fault
+fault_of_more_regions kinds regions new fault is = record { kind = is.kind; place = place_of_more regions new fault.place is.place }
+
+regions_pushed : (regions : List Region) (new : Region) → RegionsDiffer regions → has_region_named regions new.name ≡ false
+    → RegionsDiffer (regions ++ new ∷ [])
+regions_pushed regions new differ none i j one other one_is other_is same =
+    let taken : (k : ℕ) (region : Region) → slice_get regions k ≡ Some region → region.name ≡ new.name → ⊥ =
+    λ k region is e. none_passes (λ (region : Region). bytes_eq region.name new.name) regions none k region is (bytes_same region.name new.name e) in
+    elim (push_cases regions new i one one_is) [
+      | inl one_old ↦ elim (push_cases regions new j other other_is) [
+        | inl other_old ↦ differ i j one other one_old other_old same
+        | inr other_new ↦ absurd (taken i one one_old (same ∙ ap (λ (k : Region). k.name) (sym other_new.1)))
+      ]
+      | inr one_new ↦ elim (push_cases regions new j other other_is) [
+        | inl other_old ↦ absurd (taken j other other_old (sym same ∙ ap (λ (k : Region). k.name) (sym one_new.1)))
+        | inr other_new ↦ one_new.0 ∙ sym other_new.0
+      ]
+    ]
+
+pub region_named_is_named : (draft : Draft) (new : Region) (words : ℕ) → Named draft → has_region_named draft.regions new.name ≡ false
+    → 0 < new.length → Named (record draft { stage = Regions; regions = draft.regions ++ new ∷ []; words = words })
+region_named_is_named draft new words is none some =
+    let more : List Region = draft.regions ++ new ∷ [] in
+    record {
+      names = record {
+        differ = regions_pushed draft.regions new is.names.differ none;
+        places = all_pushed (λ (region : Region). 0 < region.length) draft.regions new is.names.places some;
+        in_domains = all_weaker (IsDomainOf draft.regions) (IsDomainOf more) draft.domains (domain_of_more draft.regions new) is.names.in_domains;
+        in_faults = all_weaker (IsFaultOf draft.kinds draft.regions) (IsFaultOf draft.kinds more) draft.faults
+            (fault_of_more_regions draft.kinds draft.regions new) is.names.in_faults;
+      };
+      quiet = λ start. absurd (cc);
+    }
+
+-- ---- strikes
+
+pub faults_named : (draft : Draft) → Named draft → Named (record draft { stage = Strikes })
+faults_named draft is = record { names = is.names; quiet = λ start. absurd (cc) }
+
+no_start : (stage : Stage) (P : Type 0) → takes_strikes stage ≡ true → is_start stage ≡ true → P
+no_start Start P takes start = absurd (cc)
+no_start Kinds P takes start = absurd (cc)
+no_start Regions P takes start = absurd (cc)
+no_start Root P takes start = absurd (cc)
+no_start Closed P takes start = absurd (cc)
+no_start Strikes P takes start = absurd (cc)
+
+pub fault_named : (draft : Draft) (fault : RawFault) → Named draft → takes_strikes draft.stage ≡ true → IsFaultOf draft.kinds draft.regions fault
+    → Named (record draft { faults = draft.faults ++ fault ∷ [] })
+fault_named draft fault is takes one =
+    record {
+      names = record {
+        differ = is.names.differ;
+        places = is.names.places;
+        in_domains = is.names.in_domains;
+        in_faults = all_pushed (IsFaultOf draft.kinds draft.regions) draft.faults fault is.names.in_faults one;
+      };
+      quiet = λ start. no_start draft.stage (draft.faults ++ fault ∷ [] ≡ []) takes start;
+    }

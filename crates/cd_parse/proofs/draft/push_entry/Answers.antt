@@ -1,0 +1,13 @@
+use Rattle.std.proofs.Common.{arith}
+use Rattle.cd_parse.specs.Draft.{with_entry}
+use Rattle.cd_parse.proofs.DraftLemmas.{changed_set, changed_none}
+use Rattle.cd_parse.proofs.draft.push_entry.Goals as goal
+
+pub returns-then-at-len : goal.returns-then-at-len
+returns-then-at-len c =
+    changed_none (with_entry c.args.entry) c.args.domains.now.items c.args.at (omega (arith, c.len.ensures, c.if-at-len.true))
+
+pub returns : goal.returns
+returns c =
+    rw c.in_ok-push.ensures.ok (changed_set (with_entry c.args.entry) c.args.domains.now.items c.args.at c.index_mut.result.now
+    (omega (arith, c.len.ensures, c.if-at-len.false)) c.index_mut.ensures.value)

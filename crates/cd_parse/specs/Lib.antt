@@ -1,0 +1,10 @@
+pub mod Draft
+pub mod Sound
+pub mod Ranges
+pub mod Heads
+pub mod Operations
+pub mod Statements
+pub mod Reading
+pub mod Turns
+pub mod WellRead
+pub mod Laws

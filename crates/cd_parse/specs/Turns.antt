@@ -1,0 +1,35 @@
+-- What the functions of the reading answer.
+use Rattle.std.specs.Prelude.{◌≡◌, ℕ, List, [], ◌∷◌, ◌++◌, drop, Result, Ok, Err}
+use Rattle.cd_words.specs.declared.lines.Line.{Line}
+use Rattle.cd_words.specs.declared.sums.Variable.{Variable}
+use Rattle.cd_words.specs.Blocks.{here, blocks}
+use Rattle.cd_tree.specs.declared.refusal.Refusal.{Refusal}
+use Rattle.cd_parse.specs.Draft.{Draft}
+use Rattle.cd_tree.specs.declared.refusal.Refuse.{Refuse}
+use Rattle.cd_words.specs.declared.wrong.Wrong.{Wrong}
+use Rattle.cd_words.specs.Wrongs.{◌>>=◌}
+use Rattle.cd_words.specs.Steps.{Refuses}
+use Rattle.cd_parse.specs.declared.reading.Header.{Header}
+use Rattle.cd_parse.specs.Reading.{Loop, loop_in, variable_of, counted, read}
+
+-- a loop as the code has it
+abbrev pub loop_as : List ℕ → ℕ → ℕ → Loop
+loop_as variable low high = record { variable = variable; low = low; high = high }
+
+abbrev pub ReadsLoop : List Variable → List (List ℕ) → Result Header Wrong → Type 0
+ReadsLoop variables words (Ok header) = loop_in variables words ≡ Ok (loop_as header.variable.now header.low header.high)
+ReadsLoop variables words (Err wrong) = loop_in variables words ≡ Err wrong
+
+-- the reading from this line on, to the end of its block
+abbrev pub read_from : List Line → ℕ → List Variable → Draft → Result Draft Refusal
+read_from lines at variables draft = read (here (blocks (drop at lines))) variables draft
+
+-- one turn of a loop whose body begins at this line
+abbrev pub turn_from : List Line → ℕ → List Variable → List ℕ → ℕ → Draft → Result Draft Refusal
+turn_from lines at variables name value draft =
+    counted draft >>= read_from lines at (variables ++ variable_of name value ∷ [])
+
+-- the draft is the reading's, and the name comes back
+abbrev pub ReadsTurn : Draft → List ℕ → Result (List ℕ) Refuse → Result Draft Refusal → Type 0
+ReadsTurn new name (Ok back) reading = (reading ≡ Ok new) × (back ≡ name)
+ReadsTurn new name (Err refuse) reading = Refuses refuse reading

@@ -1,0 +1,417 @@
+ghost use Rattle.std.specs.Prelude.{◌≡◌, ◌++◌, ◌∷◌, [], OnOk, slice_get, Some};
+ghost use Rattle.cd_words.specs.Steps.{Reads, Steps};
+ghost use Rattle.cd_parse.specs.Draft.{no_draft, is_start, takes_kinds, takes_regions, is_closed, takes_strikes, may_end, is_open, takes_items, is_empty_body, takes_entries, takes_domains, innermost, parent_of, changed, with_item, with_entry, add_item, add_entry, named, entered, add_domain, open_group};
+ghost use Rattle.cd_parse.specs.Heads.{entries_of, room_in, room_for_domain, ended_in, ended};
+ghost use Rattle.cd_parse.specs.Reading.{counted};
+
+use cd_base::{Items, NoMemory};
+use cd_tree::{Domain, Entry, Item, KindName, NodeId, RawScript, Refusal, Refuse, Regions, Which};
+use cd_words::{Stop, Wrong, room};
+use std::alloc::Global;
+use std::marker::Model;
+
+/// What the statements so far have come to.
+#[derive(Debug, Clone, Copy, PartialEq, Eq)]
+pub(crate) enum Stage {
+    /// Nothing is said yet.
+    Start,
+    /// Behind `cd 2`: kinds, regions or the root may follow.
+    Kinds,
+    /// Behind `cd 1`, or behind a region: regions or the root may follow.
+    Regions,
+    /// In the root.
+    Root,
+    /// Behind the root.
+    Closed,
+    /// Behind `faults`.
+    Strikes,
+}
+
+impl Stage {
+    pub(crate) fn is_start(self) -> bool
+        ensures { result ≡ is_start self }
+    {
+        matches!(self, Stage::Start)
+    }
+
+    pub(crate) fn takes_kinds(self) -> bool
+        ensures { result ≡ takes_kinds self }
+    {
+        matches!(self, Stage::Kinds)
+    }
+
+    pub(crate) fn takes_regions(self) -> bool
+        ensures { result ≡ takes_regions self }
+    {
+        matches!(self, Stage::Kinds | Stage::Regions)
+    }
+
+    pub(crate) fn is_closed(self) -> bool
+        ensures { result ≡ is_closed self }
+    {
+        matches!(self, Stage::Closed)
+    }
+
+    pub(crate) fn takes_strikes(self) -> bool
+        ensures { result ≡ takes_strikes self }
+    {
+        matches!(self, Stage::Strikes)
+    }
+
+    pub(crate) fn may_end(self) -> bool
+        ensures { result ≡ may_end self }
+    {
+        matches!(self, Stage::Closed | Stage::Strikes)
+    }
+}
+
+/// A domain that is open, by its number, and the members so far of its open group, where it has one.
+#[derive(Drop)]
+pub(crate) struct Level {
+    pub domain: u32,
+    pub group: Option<Items<NodeId>>,
+}
+
+/// The draft of a document: what the statements so far have said.
+#[derive(Drop)]
+pub(crate) struct Builder {
+    /// Statements and turns of loops.
+    pub lines: u32,
+    pub stage: Stage,
+    pub version: u32,
+    pub kinds: Items<KindName>,
+    pub regions: Regions,
+    /// The lengths of all regions.
+    pub words: u64,
+    /// The domains in preorder, with all groups that are closed.
+    pub domains: Vec<Domain>,
+    /// The domains that are open, the outermost first.
+    pub levels: Vec<Level>,
+    /// The items of all domains, with the groups that are open.
+    pub items: u32,
+    /// The entries of all domains.
+    pub preserves: u32,
+    pub faults: RawScript,
+}
+
+impl Model for Builder {
+    ghost use Rattle.std.specs.Prelude.{reverse};
+    ghost use Rattle.cd_parse.specs.Draft.{Draft};
+
+    ghost Value = { Draft };
+
+    ghost view = { λ it. record { lines = it.lines; stage = it.stage; version = it.version; kinds = it.kinds; regions = it.regions; words = it.words; domains = it.domains.items; levels = reverse it.levels.items; items = it.items; preserves = it.preserves; faults = it.faults } };
+}
+
+impl Builder {
+    /// The draft before the first statement. It takes no memory.
+    pub(crate) fn new(alloc: Global) -> Builder
+        ensures { result ≡ no_draft }
+    {
+        Builder {
+            lines: 0,
+            stage: Stage::Start,
+            version: 1,
+            kinds: Items::new(alloc),
+            regions: Items::new(alloc),
+            words: 0,
+            domains: Vec::new(alloc),
+            levels: Vec::new(alloc),
+            items: 0,
+            preserves: 0,
+            faults: Items::new(alloc),
+        }
+    }
+
+    /// One statement or one turn of a loop more.
+    pub(crate) fn count(&mut self) -> Result<(), Refuse>
+        ensures { Reads self.new result (counted self.old) }
+    {
+        if self.lines < 65_536 {
+            self.lines += 1;
+            Ok(())
+        } else {
+            Err(Refuse::Refused(Refusal::Limit(Which::Lines, 65_537)))
+        }
+    }
+}
+
+// ---- where a statement may stand
+
+fn is_open(group: &Option<Items<NodeId>>) -> bool
+    ensures { result ≡ is_open group.now }
+{
+    group.is_some()
+}
+
+impl Builder {
+    /// In a domain, and not in a group of it.
+    pub(crate) fn takes_items(&self) -> bool
+        ensures { result ≡ takes_items self.now.levels }
+    {
+        match self.levels.last() {
+            Some(level) => !is_open(&level.group),
+            None => false,
+        }
+    }
+
+    /// In a domain, before its first item.
+    pub(crate) fn takes_entries(&self) -> bool
+        ensures { result ≡ takes_entries self.now self.now.levels }
+    {
+        match self.levels.last() {
+            Some(level) => !is_open(&level.group) && self.is_empty_body(level.domain),
+            None => false,
+        }
+    }
+
+    fn is_empty_body(&self, at: u32) -> bool
+        ensures { result ≡ is_empty_body (slice_get self.now.domains at) }
+    {
+        match self.domains.get(at as usize) {
+            Some(domain) => domain.items.items().is_empty(),
+            None => false,
+        }
+    }
+
+    /// In a domain or a group, or where the root may stand.
+    pub(crate) fn takes_domains(&self) -> bool
+        ensures { result ≡ takes_domains self.now self.now.levels }
+    {
+        match self.levels.last() {
+            Some(_) => true,
+            None => self.stage.takes_regions(),
+        }
+    }
+
+    /// The domain that is open innermost; 0 where none is.
+    pub(crate) fn innermost(&self) -> u32
+        ensures { result ≡ innermost self.now.levels }
+    {
+        match self.levels.last() {
+            Some(level) => level.domain,
+            None => 0,
+        }
+    }
+
+    pub(crate) fn parent(&self) -> Option<NodeId>
+        ensures { result ≡ parent_of self.now.levels }
+    {
+        match self.levels.last() {
+            Some(level) => Some(NodeId(level.domain)),
+            None => None,
+        }
+    }
+
+    pub(crate) fn entries_at(&self, at: u32) -> usize
+        ensures { result ≡ entries_of (slice_get self.now.domains at) }
+    {
+        match self.domains.get(at as usize) {
+            Some(domain) => domain.entries.items().len(),
+            None => 0,
+        }
+    }
+
+    // ---- changes of a domain that is open
+
+    /// One item more in domain `at`.
+    pub(crate) fn add_item(&mut self, at: u32, item: Item) -> Result<(), NoMemory>
+        ensures { OnOk result (self.new ≡ add_item at item self.old) }
+    {
+        push_item(&mut self.domains, at, item)?;
+        self.items = self.items.checked_add(1).ok_or(NoMemory)?;
+        Ok(())
+    }
+
+    /// One entry more in domain `at`.
+    pub(crate) fn add_entry(&mut self, at: u32, entry: Entry) -> Result<(), NoMemory>
+        ensures { OnOk result (self.new ≡ add_entry at entry self.old) }
+    {
+        push_entry(&mut self.domains, at, entry)?;
+        self.preserves = self.preserves.checked_add(1).ok_or(NoMemory)?;
+        Ok(())
+    }
+}
+
+/// An item more, last.
+pub(crate) fn push_last<T: Drop>(items: &mut Items<T>, item: T) -> Result<(), NoMemory>
+    ensures { OnOk result (items.new ≡ items.old ++ item ∷ []) }
+{
+    if items.items().len() >= 4_294_967_294 {
+        return Err(NoMemory);
+    }
+    items.push(item)
+}
+
+// ---- domains and groups that open and close
+
+impl Builder {
+    /// Whether one more domain has room in its parent.
+    pub(crate) fn room_for_domain(&self) -> Result<(), Wrong>
+        ensures { result ≡ room_for_domain self.now.levels self.now.items }
+    {
+        match self.levels.last() {
+            None => Ok(()),
+            Some(level) => room_in(&level.group, self.items),
+        }
+    }
+
+    /// A group opens in the innermost domain.
+    pub(crate) fn open_group(&mut self, alloc: Global) -> Result<(), NoMemory>
+        ensures { OnOk result (self.new ≡ open_group self.old.levels self.old) }
+    {
+        match self.levels.pop() {
+            None => Ok(()),
+            Some(level) => {
+                self.levels.push(Level {
+                    domain: level.domain,
+                    group: Some(Items::new(alloc)),
+                })?;
+                self.items = self.items.checked_add(1).ok_or(NoMemory)?;
+                Ok(())
+            }
+        }
+    }
+
+    /// The innermost group or domain closes.
+    pub(crate) fn close(&mut self) -> Result<(), Stop>
+        ensures { Steps self.new result (ended self.old.levels self.old) }
+    {
+        match self.levels.pop() {
+            None => Err(Stop::Wrong(Wrong::Form)),
+            Some(
+                Level {
+                    domain: _,
+                    group: None,
+                },
+            ) => {
+                self.stage = if self.levels.is_empty() {
+                    Stage::Closed
+                } else {
+                    Stage::Root
+                };
+                Ok(())
+            }
+            Some(
+                Level {
+                    domain,
+                    group: Some(members),
+                },
+            ) => self.close_group(domain, members),
+        }
+    }
+
+    // The group with these members closes, whose domain was taken off the levels.
+    fn close_group(&mut self, domain: u32, members: Items<NodeId>) -> Result<(), Stop>
+        ensures { Steps self.new result (ended_in (Some members) domain self.old.levels self.old) }
+    {
+        if members.items().is_empty() {
+            return Err(Stop::Wrong(Wrong::Form));
+        }
+        push_item(&mut self.domains, domain, Item::Group(members))?;
+        self.levels.push(Level {
+            domain,
+            group: None,
+        })?;
+        Ok(())
+    }
+
+    /// One domain more, which is open.
+    pub(crate) fn add_domain(&mut self, alloc: Global, domain: Domain) -> Result<(), NoMemory>
+        ensures { OnOk result (self.new ≡ add_domain domain self.old) }
+    {
+        let at = self.domains.len();
+        if at >= 4_294_967_296 {
+            return Err(NoMemory);
+        }
+        self.name_in_parent(alloc, NodeId(at as u32))?;
+        self.enter(at as u32, domain)
+    }
+
+    fn enter(&mut self, at: u32, domain: Domain) -> Result<(), NoMemory>
+        ensures { OnOk result (self.new ≡ entered at domain self.old) }
+    {
+        self.stage = Stage::Root;
+        self.domains.push(domain)?;
+        self.levels.push(Level {
+            domain: at,
+            group: None,
+        })?;
+        Ok(())
+    }
+
+    // The parent names a domain, as a group of its own or as a member of the group that is open there.
+    fn name_in_parent(&mut self, alloc: Global, id: NodeId) -> Result<(), NoMemory>
+        ensures { OnOk result (self.new ≡ named self.old.levels id self.old) }
+    {
+        match self.levels.pop() {
+            None => Ok(()),
+            Some(
+                Level {
+                    domain,
+                    group: None,
+                },
+            ) => {
+                self.levels.push(Level {
+                    domain,
+                    group: None,
+                })?;
+                let mut alone = Items::new(alloc);
+                alone.push(id)?;
+                self.add_item(domain, Item::Group(alone))
+            }
+            Some(
+                Level {
+                    domain,
+                    group: Some(mut members),
+                },
+            ) => {
+                push_last(&mut members, id)?;
+                self.levels.push(Level {
+                    domain,
+                    group: Some(members),
+                })?;
+                Ok(())
+            }
+        }
+    }
+}
+
+fn room_in(group: &Option<Items<NodeId>>, items: u32) -> Result<(), Wrong>
+    ensures { result ≡ room_in group.now items }
+{
+    match group {
+        None => room(Which::Items, 16_384, items as usize),
+        Some(members) => room(Which::Members, 256, members.items().len()),
+    }
+}
+
+// One item more in domain `at`, where there is one.
+fn push_item(domains: &mut Vec<Domain>, at: u32, item: Item) -> Result<(), NoMemory>
+    ensures { OnOk result (domains.new.items ≡ changed at (with_item item) domains.old.items) }
+{
+    let at = at as usize;
+    if at >= domains.len() {
+        return Ok(());
+    }
+    if domains[at].items.items().len() >= 4_294_967_294 {
+        return Err(NoMemory);
+    }
+    domains[at].items.push(item)?;
+    Ok(())
+}
+
+// One entry more in domain `at`, where there is one.
+fn push_entry(domains: &mut Vec<Domain>, at: u32, entry: Entry) -> Result<(), NoMemory>
+    ensures { OnOk result (domains.new.items ≡ changed at (with_entry entry) domains.old.items) }
+{
+    let at = at as usize;
+    if at >= domains.len() {
+        return Ok(());
+    }
+    if domains[at].entries.items().len() >= 4_294_967_294 {
+        return Err(NoMemory);
+    }
+    domains[at].entries.push(entry)?;
+    Ok(())
+}

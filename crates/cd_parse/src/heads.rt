@@ -1,0 +1,605 @@
+ghost use Rattle.std.specs.Prelude.{◌≡◌, ◌+◌, ◌++◌, ◌∷◌, [], ◌&&◌, IfOk, OnOk, IsTrue, Err, true, false, bytes_eq, codes, if◌then◌else◌};
+ghost use Rattle.cd_words.specs.declared.wrong.Wrong.TheVariants.{Form};
+ghost use Rattle.cd_words.specs.Sums.{is_base};
+ghost use Rattle.cd_parse.specs.declared.draft.Stage.TheVariants.{Regions};
+ghost use Rattle.cd_parse.specs.Statements.{with_op, operation_in};
+ghost use Rattle.cd_words.specs.Steps.{Steps};
+ghost use Rattle.cd_parse.specs.Draft.{four_kinds, kind_name, has_kind_named, has_region_named, is_parent, has_child_named, add_domain};
+ghost use Rattle.cd_words.specs.Wrongs.{both};
+ghost use Rattle.cd_parse.specs.Heads.{name_fits, begun, cd_in, short_how, long_how, how_in, with_entry_of, preserve_in, faults_in, is_kind_name, with_kind_named, kind_in, words_fit, region_of, with_region, regioned, region_statement, time_in, damage_in, with_fault, struck, strike_in, group_in, end_in, has_domain_form, retry_fits, domain_named, with_domain, domained, domain_in};
+
+use crate::draft::{Builder, Stage, push_last};
+use crate::operations::{fits, op_in};
+use crate::ranges::{place_in, range_in};
+use cd_base::{Bytes, Items, NoMemory, Pattern, Place, Range, Text};
+use cd_tree::{
+    Domain, Entry, How, Item, Kind, KindName, Kinds, NodeId, Op, RawFault, Region, Which,
+};
+use cd_words::{
+    Stop, Variable, Wrong, all_hold, both, expression, guard, is_base, kind, kind_set, name, path,
+    pattern, room, text_of,
+};
+use std::alloc::Global;
+
+fn name_fits(name: &[u8]) -> Result<(), Wrong>
+    ensures { result ≡ name_fits name.now }
+{
+    guard(
+        name.len() <= 32,
+        Wrong::Limit(Which::Name, name.len() as u64),
+    )
+}
+
+// Three parts of a statement.
+fn three<A: Drop, B: Drop, C: Drop>(
+    one: Result<A, Wrong>,
+    other: Result<B, Wrong>,
+    third: Result<C, Wrong>,
+) -> Result<(A, (B, C)), Wrong>
+    ensures { result ≡ both one (both other third) }
+{
+    both(one, both(other, third))
+}
+
+// ---- cd
+
+// cd 1, cd 2
+#[tactic(auto, unfolding(crate::specs::Heads::cd_in))]
+pub(crate) fn cd(alloc: Global, draft: &mut Builder, words: &[Bytes]) -> Result<(), Stop>
+    ensures { Steps draft.new result (cd_in draft.old words.now) }
+{
+    match words {
+        [version] => {
+            guard(draft.stage.is_start(), Wrong::Form)?;
+            begin(alloc, draft, version.as_slice())
+        }
+        _ => Err(Stop::Wrong(Wrong::Form)),
+    }
+}
+
+fn begin(alloc: Global, draft: &mut Builder, version: &[u8]) -> Result<(), Stop>
+    ensures { Steps draft.new result (begun draft.old version.now) }
+{
+    if version == b"1".as_slice() {
+        draft.kinds = four_kinds(alloc)?;
+        draft.version = 1;
+        draft.stage = Stage::Regions;
+        Ok(())
+    } else if version == b"2".as_slice() {
+        draft.version = 2;
+        draft.stage = Stage::Kinds;
+        Ok(())
+    } else {
+        Err(Stop::Wrong(Wrong::Form))
+    }
+}
+
+fn four_kinds(alloc: Global) -> Result<Items<KindName>, NoMemory>
+    ensures { IfOk result (λ kinds. kinds ≡ four_kinds) }
+{
+    let mut kinds = Items::new(alloc);
+    kinds.push(kind_name(alloc, "flip")?)?;
+    kinds.push(kind_name(alloc, "lost")?)?;
+    kinds.push(kind_name(alloc, "link")?)?;
+    kinds.push(kind_name(alloc, "node")?)?;
+    Ok(kinds)
+}
+
+fn kind_name(alloc: Global, name: &str) -> Result<KindName, NoMemory>
+    ensures { IfOk result (λ kind. kind ≡ kind_name name.now false) }
+{
+    Ok(KindName {
+        name: Text::of(alloc, name)?,
+        halts: false,
+    })
+}
+
+// ---- faults
+
+// faults
+#[tactic(auto, unfolding(crate::specs::Heads::faults_in))]
+pub(crate) fn faults(draft: &mut Builder, words: &[Bytes]) -> Result<(), Stop>
+    ensures { Steps draft.new result (faults_in draft.old words.now) }
+{
+    match words {
+        [] => {
+            guard(draft.stage.is_closed(), Wrong::Form)?;
+            draft.stage = Stage::Strikes;
+            Ok(())
+        }
+        _ => Err(Stop::Wrong(Wrong::Form)),
+    }
+}
+
+// ---- preserve
+
+// copy, refer, regen PATTERN
+#[tactic(auto, unfolding(crate::specs::Heads::how_in))]
+fn how_in(variables: &[Variable], words: &[Bytes]) -> Result<How, Wrong>
+    ensures { result ≡ how_in variables.now words.now }
+{
+    match words {
+        [] => Err(Wrong::Form),
+        [word] => short_how(word.as_slice()),
+        [word, more @ ..] => long_how(variables, word.as_slice(), more),
+    }
+}
+
+// copy, refer
+fn short_how(word: &[u8]) -> Result<How, Wrong>
+    ensures { result ≡ short_how word.now }
+{
+    if word == b"copy".as_slice() {
+        Ok(How::Copy)
+    } else if word == b"refer".as_slice() {
+        Ok(How::Refer)
+    } else {
+        Err(Wrong::Form)
+    }
+}
+
+// regen PATTERN
+fn long_how(variables: &[Variable], word: &[u8], more: &[Bytes]) -> Result<How, Wrong>
+    ensures { result ≡ long_how variables.now word.now more.now }
+{
+    if word == b"regen".as_slice() {
+        Ok(How::Regen(pattern(variables, more)?))
+    } else {
+        Err(Wrong::Form)
+    }
+}
+
+// preserve RANGE ..
+#[tactic(auto, unfolding(crate::specs::Heads::preserve_in))]
+pub(crate) fn preserve(
+    variables: &[Variable],
+    draft: &mut Builder,
+    words: &[Bytes],
+) -> Result<(), Stop>
+    ensures { Steps draft.new result (preserve_in variables.now draft.old words.now) }
+{
+    match words {
+        [range, more @ ..] => {
+            let stage = guard(draft.takes_entries(), Wrong::Form);
+            let range = range_in(variables, draft.regions.items(), range.as_slice());
+            let how = how_in(variables, more);
+            let (_, (range, how)) = both(stage, both(range, how))?;
+            add_entry(draft, range, how)
+        }
+        _ => Err(Stop::Wrong(Wrong::Form)),
+    }
+}
+
+#[tactic(auto, unfolding(crate::specs::Heads::with_entry_of))]
+fn add_entry(draft: &mut Builder, range: Range, how: How) -> Result<(), Stop>
+    ensures { Steps draft.new result (with_entry_of draft.old range how) }
+{
+    let at = draft.innermost();
+    let entries = room(Which::Entries, 64, draft.entries_at(at));
+    let preserves = room(Which::Preserves, 16_384, draft.preserves as usize);
+    all_hold(&[entries, preserves])?;
+    draft.add_entry(at, Entry { range, how })?;
+    Ok(())
+}
+
+// ---- kind
+
+// kind BASE, kind BASE halt
+#[tactic(auto, unfolding(crate::specs::Heads::kind_in))]
+pub(crate) fn kind_statement(
+    alloc: Global,
+    draft: &mut Builder,
+    words: &[Bytes],
+) -> Result<(), Stop>
+    ensures { Steps draft.new result (kind_in draft.old words.now) }
+{
+    match words {
+        [word] => add_kind(alloc, draft, word.as_slice(), false),
+        [word, halt] => add_halting(alloc, draft, word.as_slice(), halt.as_slice()),
+        _ => Err(Stop::Wrong(Wrong::Form)),
+    }
+}
+
+fn add_halting(alloc: Global, draft: &mut Builder, word: &[u8], halt: &[u8]) -> Result<(), Stop>
+    ensures { Steps draft.new result (if bytes_eq halt.now (codes "halt") then with_kind_named draft.old word.now true else Err Form) }
+{
+    if halt == b"halt".as_slice() {
+        add_kind(alloc, draft, word, true)
+    } else {
+        Err(Stop::Wrong(Wrong::Form))
+    }
+}
+
+fn is_kind_name(word: &[u8]) -> bool
+    ensures value { result ≡ is_kind_name word.now }
+    ensures base { IsTrue result → is_base word.now ≡ true }
+{
+    is_base(word) && word != b"none".as_slice()
+}
+
+fn has_kind_named(kinds: &[KindName], word: &[u8]) -> bool
+    ensures { result ≡ has_kind_named kinds.now word.now }
+{
+    kinds
+        .iter()
+        .any(|kind| kind.name.as_str().as_bytes() == word)
+}
+
+#[tactic(auto, unfolding(crate::specs::Heads::with_kind_named))]
+fn add_kind(alloc: Global, draft: &mut Builder, word: &[u8], halts: bool) -> Result<(), Stop>
+    ensures { Steps draft.new result (with_kind_named draft.old word.now halts) }
+{
+    if !draft.stage.takes_kinds() || !is_kind_name(word) {
+        return Err(Stop::Wrong(Wrong::Form));
+    }
+    let free = guard(!has_kind_named(draft.kinds.items(), word), Wrong::Taken);
+    let count = room(Which::Kinds, 16, draft.kinds.items().len());
+    all_hold(&[free, name_fits(word), count])?;
+    let name = text_of(alloc, word)?;
+    push_last(&mut draft.kinds, KindName { name, halts })?;
+    Ok(())
+}
+
+// ---- region
+
+fn has_region_named(regions: &[Region], word: &[u8]) -> bool
+    ensures { result ≡ has_region_named regions.now word.now }
+{
+    regions
+        .iter()
+        .any(|region| region.name.as_str().as_bytes() == word)
+}
+
+fn words_fit(words: u64, size: u64) -> Result<(), Wrong>
+    ensures { result ≡ words_fit (words + size) }
+{
+    let sum = u128::from(words) + u128::from(size);
+    let told = sum.min(18_446_744_073_709_551_615) as u64;
+    guard(sum <= 1_048_576, Wrong::Limit(Which::Words, told))
+}
+
+// region NAME E PATTERN
+#[tactic(auto, unfolding(crate::specs::Heads::region_statement))]
+pub(crate) fn region_statement(
+    alloc: Global,
+    variables: &[Variable],
+    draft: &mut Builder,
+    words: &[Bytes],
+) -> Result<(), Stop>
+    ensures { Steps draft.new result (region_statement variables.now draft.old words.now) }
+{
+    match words {
+        [word, size, more @ ..] => {
+            let stage = guard(draft.stage.takes_regions(), Wrong::Form);
+            let named = name(alloc, variables, word.as_slice())?;
+            let size = expression(variables, size.as_slice());
+            let pattern = pattern(variables, more);
+            region_of(draft, stage, named, size, pattern)
+        }
+        _ => Err(Stop::Wrong(Wrong::Form)),
+    }
+}
+
+fn region_of(
+    draft: &mut Builder,
+    stage: Result<(), Wrong>,
+    named: Result<Text, Wrong>,
+    size: Result<u64, Wrong>,
+    pattern: Result<Pattern, Wrong>,
+) -> Result<(), Stop>
+    ensures { Steps draft.new result (regioned draft.old stage named size pattern) }
+{
+    let parts = three(named, size, pattern);
+    let (_, (named, (size, pattern))) = both(stage, parts)?;
+    add_region(draft, named, size, pattern)
+}
+
+#[tactic(auto, unfolding(crate::specs::Heads::with_region))]
+fn add_region(draft: &mut Builder, named: Text, size: u64, pattern: Pattern) -> Result<(), Stop>
+    ensures { Steps draft.new result (with_region draft.old named size pattern) }
+{
+    let word = named.as_str().as_bytes();
+    let free = guard(!has_region_named(draft.regions.items(), word), Wrong::Taken);
+    let some = guard(0 < size, Wrong::Unfit);
+    let count = room(Which::Regions, 64, draft.regions.items().len());
+    let sum = words_fit(draft.words, size);
+    all_hold(&[free, some, name_fits(word), count, sum])?;
+    put_region(draft, named, size, pattern)?;
+    Ok(())
+}
+
+fn put_region(draft: &mut Builder, named: Text, size: u64, pattern: Pattern) -> Result<(), NoMemory>
+    ensures { OnOk result (draft.new ≡ record draft.old { stage = Regions; regions = draft.old.regions ++ region_of named size pattern ∷ []; words = draft.old.words + size }) }
+{
+    if size >= 4_294_967_296 {
+        return Err(NoMemory);
+    }
+    draft.words = draft.words.checked_add(size).ok_or(NoMemory)?;
+    let region = Region {
+        name: named,
+        length: size as u32,
+        pattern,
+    };
+    push_last(&mut draft.regions, region)?;
+    draft.stage = Stage::Regions;
+    Ok(())
+}
+
+// ---- strike
+
+// Begin and point.
+#[tactic(auto, unfolding(crate::specs::Heads::time_in))]
+fn time_in(variables: &[Variable], begin: &[u8], point: &[u8]) -> Result<(u64, u64), Wrong>
+    ensures { result ≡ time_in variables.now begin.now point.now }
+{
+    both(expression(variables, begin), expression(variables, point))
+}
+
+// Kind, place and mask.
+#[tactic(auto, unfolding(crate::specs::Heads::damage_in))]
+fn damage_in(
+    variables: &[Variable],
+    draft: &Builder,
+    word: &[u8],
+    place: &[u8],
+    mask: &[u8],
+) -> Result<(Kind, (Place, u64)), Wrong>
+    ensures { result ≡ damage_in variables.now draft.now word.now place.now mask.now }
+{
+    both(
+        kind(draft.kinds.items(), word),
+        both(
+            place_in(variables, draft.regions.items(), place),
+            expression(variables, mask),
+        ),
+    )
+}
+
+// strike PATH E E KIND PLACE E
+#[tactic(auto, unfolding(crate::specs::Heads::strike_in))]
+pub(crate) fn strike(
+    alloc: Global,
+    variables: &[Variable],
+    draft: &mut Builder,
+    words: &[Bytes],
+) -> Result<(), Stop>
+    ensures { Steps draft.new result (strike_in variables.now draft.old words.now) }
+{
+    match words {
+        [domain, begin, point, kind, place, mask] => {
+            let stage = guard(draft.stage.takes_strikes(), Wrong::Form);
+            let path = path(alloc, variables, domain.as_slice())?;
+            let time = time_in(variables, begin.as_slice(), point.as_slice());
+            let damage = damage_in(
+                variables,
+                draft,
+                kind.as_slice(),
+                place.as_slice(),
+                mask.as_slice(),
+            );
+            add_strike(draft, stage, path, time, damage)
+        }
+        _ => Err(Stop::Wrong(Wrong::Form)),
+    }
+}
+
+fn add_strike(
+    draft: &mut Builder,
+    stage: Result<(), Wrong>,
+    path: Result<Text, Wrong>,
+    time: Result<(u64, u64), Wrong>,
+    damage: Result<(Kind, (Place, u64)), Wrong>,
+) -> Result<(), Stop>
+    ensures { Steps draft.new result (struck draft.old stage path time damage) }
+{
+    let parts = three(path, time, damage);
+    let (_, (path, ((begin, item), (kind, (place, mask))))) = both(stage, parts)?;
+    let fault = RawFault {
+        path,
+        begin,
+        item,
+        kind,
+        place,
+        mask,
+    };
+    add_fault(draft, fault)
+}
+
+fn add_fault(draft: &mut Builder, fault: RawFault) -> Result<(), Stop>
+    ensures { Steps draft.new result (with_fault draft.old fault) }
+{
+    room(Which::Faults, 256, draft.faults.items().len())?;
+    push_last(&mut draft.faults, fault)?;
+    Ok(())
+}
+
+// ---- operations
+
+#[tactic(auto, unfolding(crate::specs::Statements::with_op))]
+fn add_op(draft: &mut Builder, op: Op) -> Result<(), Stop>
+    ensures { Steps draft.new result (with_op draft.old op) }
+{
+    let fit = guard(fits(&op), Wrong::Unfit);
+    let count = room(Which::Items, 16_384, draft.items as usize);
+    all_hold(&[fit, count])?;
+    let at = draft.innermost();
+    draft.add_item(at, Item::Run(op))?;
+    Ok(())
+}
+
+/// An operation, in a domain's body.
+#[tactic(auto, unfolding(crate::specs::Statements::operation_in))]
+pub(crate) fn operation(
+    variables: &[Variable],
+    draft: &mut Builder,
+    keyword: &[u8],
+    rest: &[Bytes],
+) -> Result<(), Stop>
+    ensures { Steps draft.new result (operation_in variables.now draft.old keyword.now rest.now) }
+{
+    let stage = guard(draft.takes_items(), Wrong::Form);
+    let op = op_in(variables, draft.regions.items(), keyword, rest);
+    let (_, op) = both(stage, op)?;
+    add_op(draft, op)
+}
+
+// ---- group and end
+
+// group
+#[tactic(auto, unfolding(crate::specs::Heads::group_in))]
+pub(crate) fn group(alloc: Global, draft: &mut Builder, words: &[Bytes]) -> Result<(), Stop>
+    ensures { Steps draft.new result (group_in draft.old words.now) }
+{
+    match words {
+        [] => {
+            let stage = guard(draft.takes_items(), Wrong::Form);
+            let count = room(Which::Items, 16_384, draft.items as usize);
+            all_hold(&[stage, count])?;
+            draft.open_group(alloc)?;
+            Ok(())
+        }
+        _ => Err(Stop::Wrong(Wrong::Form)),
+    }
+}
+
+// end
+#[tactic(auto, unfolding(crate::specs::Heads::end_in))]
+pub(crate) fn end(draft: &mut Builder, words: &[Bytes]) -> Result<(), Stop>
+    ensures { Steps draft.new result (end_in draft.old words.now) }
+{
+    match words {
+        [] => draft.close(),
+        _ => Err(Stop::Wrong(Wrong::Form)),
+    }
+}
+
+// ---- domain
+
+fn has_domain_form(draft: &Builder, retry: &[u8], detects: &[u8]) -> bool
+    ensures { result ≡ has_domain_form draft.now retry.now detects.now }
+{
+    draft.takes_domains() && (retry == b"retry".as_slice() && detects == b"detects".as_slice())
+}
+
+fn has_child_named(domains: &[Domain], parent: Option<NodeId>, word: &[u8]) -> bool
+    ensures { result ≡ has_child_named domains.now parent word.now }
+{
+    domains
+        .iter()
+        .any(|domain| is_child_named(domain, parent, word))
+}
+
+fn is_child_named(domain: &Domain, parent: Option<NodeId>, word: &[u8]) -> bool
+    ensures { result ≡ (is_parent domain.now.parent parent && bytes_eq domain.now.name word.now) }
+{
+    is_parent(domain.parent, parent) && domain.name.as_str().as_bytes() == word
+}
+
+fn is_parent(one: Option<NodeId>, other: Option<NodeId>) -> bool
+    ensures { result ≡ is_parent one other }
+{
+    match (one, other) {
+        (None, None) => true,
+        (Some(one), Some(other)) => one.0 == other.0,
+        _ => false,
+    }
+}
+
+// domain NAME retry E detects KINDS
+#[tactic(auto, unfolding(crate::specs::Heads::domain_in))]
+pub(crate) fn domain(
+    alloc: Global,
+    variables: &[Variable],
+    draft: &mut Builder,
+    words: &[Bytes],
+) -> Result<(), Stop>
+    ensures { Steps draft.new result (domain_in variables.now draft.old words.now) }
+{
+    match words {
+        [word, retry, tries, detects, kinds] => {
+            let form = guard(
+                has_domain_form(draft, retry.as_slice(), detects.as_slice()),
+                Wrong::Form,
+            );
+            let named = name(alloc, variables, word.as_slice())?;
+            let tries = expression(variables, tries.as_slice());
+            let kinds = kind_set(draft.kinds.items(), kinds.as_slice());
+            domain_of(alloc, draft, form, named, tries, kinds)
+        }
+        _ => Err(Stop::Wrong(Wrong::Form)),
+    }
+}
+
+fn domain_of(
+    alloc: Global,
+    draft: &mut Builder,
+    form: Result<(), Wrong>,
+    named: Result<Text, Wrong>,
+    tries: Result<u64, Wrong>,
+    kinds: Result<Kinds, Wrong>,
+) -> Result<(), Stop>
+    ensures { Steps draft.new result (domained draft.old form named tries kinds) }
+{
+    let parts = three(named, tries, kinds);
+    let (_, (named, (tries, kinds))) = both(form, parts)?;
+    add_domain(alloc, draft, named, tries, kinds)
+}
+
+fn retry_fits(tries: u64) -> Result<(), Wrong>
+    ensures { result ≡ retry_fits tries }
+{
+    guard(0 < tries && tries <= 100, Wrong::Limit(Which::Retry, tries))
+}
+
+#[tactic(auto, unfolding(crate::specs::Heads::with_domain))]
+fn add_domain(
+    alloc: Global,
+    draft: &mut Builder,
+    named: Text,
+    tries: u64,
+    kinds: Kinds,
+) -> Result<(), Stop>
+    ensures { Steps draft.new result (with_domain draft.old named tries kinds) }
+{
+    let word = named.as_str().as_bytes();
+    let parent = draft.parent();
+    let taken = has_child_named(draft.domains.as_slice(), parent, word);
+    let free = guard(!taken, Wrong::Taken);
+    let count = room(Which::Domains, 2_048, draft.domains.len());
+    let depth = room(Which::Depth, 16, draft.levels.len());
+    let place = draft.room_for_domain();
+    all_hold(&[
+        free,
+        name_fits(word),
+        count,
+        depth,
+        place,
+        retry_fits(tries),
+    ])?;
+    put_domain(alloc, draft, named, parent, tries, kinds)?;
+    Ok(())
+}
+
+fn put_domain(
+    alloc: Global,
+    draft: &mut Builder,
+    named: Text,
+    parent: Option<NodeId>,
+    tries: u64,
+    kinds: Kinds,
+) -> Result<(), NoMemory>
+    ensures { OnOk result (draft.new ≡ add_domain (domain_named named parent tries kinds) draft.old) }
+{
+    if tries >= 4_294_967_296 {
+        return Err(NoMemory);
+    }
+    let domain = Domain {
+        name: named,
+        parent,
+        retry: tries as u32,
+        detects: kinds,
+        entries: Items::new(alloc),
+        items: Items::new(alloc),
+    };
+    draft.add_domain(alloc, domain)
+}

@@ -1,0 +1,257 @@
+ghost use Rattle.std.specs.Prelude.{◌≡◌, ◌+◌, ◌<◌, ◌≤◌, ◌&&◌, length, IfOk, OnOk, codes, bytes_eq};
+ghost use Rattle.cd_words.specs.Steps.{Reads, Answers};
+ghost use Rattle.cd_words.specs.Layouts.{IsTable};
+ghost use Rattle.cd_words.specs.Sums.{is_base};
+ghost use Rattle.cd_parse.specs.Reading.{taken, looped, is_variable, loop_limits, bounds_part, loop_bounds, ended, draft_of};
+ghost use Rattle.cd_parse.specs.Turns.{read_from, turn_from, ReadsLoop, ReadsTurn};
+
+use crate::draft::Builder;
+use crate::statements::statement;
+use cd_base::{Bytes, NoMemory};
+use cd_tree::{Refusal, Refuse, Which};
+use cd_words::{Line, Role, Variable, Wrong, both, bounds, guard, is_base, lay_out, room};
+use std::alloc::Global;
+
+// What a loop says.
+#[derive(Clone, Copy)]
+struct Header<'a> {
+    variable: &'a [u8],
+    low: u64,
+    high: u64,
+}
+
+// A statement, at its line.
+#[tactic(auto, unfolding(crate::specs::Reading::taken))]
+fn take(
+    alloc: Global,
+    line: &Line,
+    variables: &[Variable],
+    draft: &mut Builder,
+) -> Result<(), Refuse>
+    ensures { Reads draft.new result (taken variables.now line.now draft.old) }
+{
+    if let Err(refuse) = draft.count() {
+        return Err(refuse);
+    }
+    match statement(alloc, variables, line.words.items(), draft) {
+        Ok(()) => Ok(()),
+        Err(stop) => Err(stop.at(line.number)),
+    }
+}
+
+fn is_variable(variables: &[Variable], name: &[u8]) -> bool
+    ensures { result ≡ is_variable variables.now name.now }
+{
+    variables
+        .iter()
+        .any(|variable| variable.name.as_slice() == name)
+}
+
+// for BASE in E..E
+#[tactic(auto, unfolding(crate::specs::Reading::loop_in))]
+fn loop_in<'a>(variables: &[Variable], words: &'a [Bytes]) -> Result<Header<'a>, Wrong>
+    ensures { ReadsLoop variables.now words.now result }
+{
+    match words {
+        [_, variable, among, numbers] => {
+            let variable = variable.as_slice();
+            let (low, high) = loop_bounds(
+                variables,
+                variable,
+                among.as_slice(),
+                numbers.as_slice(),
+            )?;
+            Ok(Header {
+                variable,
+                low,
+                high,
+            })
+        }
+        _ => Err(Wrong::Form),
+    }
+}
+
+fn has_form(variable: &[u8], among: &[u8]) -> bool
+    ensures { result ≡ (is_base variable.now && bytes_eq among.now (codes "in")) }
+{
+    is_base(variable) && among == b"in".as_slice()
+}
+
+fn loop_bounds(
+    variables: &[Variable],
+    variable: &[u8],
+    among: &[u8],
+    numbers: &[u8],
+) -> Result<(u64, u64), Wrong>
+    ensures { result ≡ loop_bounds variables.now variable.now among.now numbers.now }
+{
+    let form = guard(has_form(variable, among), Wrong::Form);
+    let values = both(bounds(variables, numbers), loop_limits(variables, variable));
+    bounds_part(both(form, values))
+}
+
+// The bounds among the parts of a loop's line.
+fn bounds_part(parts: Result<((), ((u64, u64), ((), ()))), Wrong>) -> Result<(u64, u64), Wrong>
+    ensures { result ≡ bounds_part parts }
+{
+    match parts {
+        Ok((_, (bounds, _))) => Ok(bounds),
+        Err(wrong) => Err(wrong),
+    }
+}
+
+// The variable is no other's, and at most fifteen loops stand around.
+fn loop_limits(variables: &[Variable], variable: &[u8]) -> Result<((), ()), Wrong>
+    ensures { result ≡ loop_limits variables.now variable.now }
+{
+    both(
+        guard(!is_variable(variables, variable), Wrong::Taken),
+        room(Which::Nesting, 16, variables.len()),
+    )
+}
+
+fn copy_of(alloc: Global, bytes: &[u8]) -> Result<Bytes, NoMemory>
+    ensures { IfOk result (λ copy. copy ≡ bytes.now) }
+{
+    Ok(Bytes::of(bytes.to_vec(alloc)?))
+}
+
+// What stands from a line on, to the end of its block.
+#[cycle(reading)]
+fn block(
+    alloc: Global,
+    lines: &[Line],
+    after: &[u32],
+    from: usize,
+    variables: &mut Vec<Variable>,
+    draft: &mut Builder,
+) -> Result<(), Refuse>
+    requires table { IsTable lines.now after.now 0 }
+    requires from { from ≤ length lines.now }
+    ensures exact { Reads draft.new result (read_from lines.now from variables.old.items draft.old) }
+    ensures same { OnOk result (variables.new.items ≡ variables.old.items) }
+{
+    let mut at = from;
+    while at < lines.len() {
+        let line = &lines[at];
+        match line.role {
+            Role::Closes => return Ok(()),
+            Role::Says => {
+                if let Err(refuse) = take(alloc, line, variables.as_slice(), draft) {
+                    return Err(refuse);
+                }
+                at += 1;
+            }
+            Role::Opens => {
+                if let Err(refuse) = repeat(alloc, lines, after, at, line, variables, draft) {
+                    return Err(refuse);
+                }
+                at = after[at + 1] as usize;
+            }
+        }
+    }
+    Ok(())
+}
+
+// The loop that opens at a line.
+#[cycle(reading)]
+fn repeat(
+    alloc: Global,
+    lines: &[Line],
+    after: &[u32],
+    at: usize,
+    line: &Line,
+    variables: &mut Vec<Variable>,
+    draft: &mut Builder,
+) -> Result<(), Refuse>
+    requires table { IsTable lines.now after.now 0 }
+    requires at { at < length lines.now }
+    ensures exact { Reads draft.new result (looped (read_from lines.now (at + 1)) variables.old.items line.now draft.old) }
+    ensures same { OnOk result (variables.new.items ≡ variables.old.items) }
+{
+    let header = match loop_in(variables.as_slice(), line.words.items()) {
+        Ok(header) => header,
+        Err(wrong) => return Err(Refuse::Refused(wrong.at(line.number))),
+    };
+    if header.high <= header.low {
+        return Ok(());
+    }
+    let mut name = match copy_of(alloc, header.variable) {
+        Ok(name) => name,
+        Err(NoMemory) => return Err(Refuse::NoMemory),
+    };
+    for value in header.low..header.high {
+        match turn(alloc, lines, after, at + 1, name, value, variables, draft) {
+            Ok(same) => name = same,
+            Err(refuse) => return Err(refuse),
+        }
+    }
+    Ok(())
+}
+
+// One turn of a loop, whose variable has this value.
+#[cycle(reading)]
+fn turn(
+    alloc: Global,
+    lines: &[Line],
+    after: &[u32],
+    from: usize,
+    name: Bytes,
+    value: u64,
+    variables: &mut Vec<Variable>,
+    draft: &mut Builder,
+) -> Result<Bytes, Refuse>
+    requires table { IsTable lines.now after.now 0 }
+    requires from { from ≤ length lines.now }
+    ensures exact { ReadsTurn draft.new name result (turn_from lines.now from variables.old.items name value draft.old) }
+    ensures same { OnOk result (variables.new.items ≡ variables.old.items) }
+{
+    if let Err(refuse) = draft.count() {
+        return Err(refuse);
+    }
+    if variables.push(Variable { name, value }).is_err() {
+        return Err(Refuse::NoMemory);
+    }
+    if let Err(refuse) = block(alloc, lines, after, from, variables, draft) {
+        return Err(refuse);
+    }
+    match variables.pop() {
+        Some(variable) => Ok(variable.name),
+        None => Err(Refuse::NoMemory),
+    }
+}
+
+/// What a text has said at its end, or why it is no document.
+pub(crate) fn read_draft(alloc: Global, bytes: &[u8]) -> Result<Builder, Refuse>
+    requires { length bytes.now ≤ 1048576 }
+    ensures { Answers result (draft_of bytes.now) }
+{
+    let layout = match lay_out(alloc, bytes) {
+        Ok(layout) => layout,
+        Err(refuse) => return Err(refuse),
+    };
+    let mut draft = Builder::new(alloc);
+    let mut variables = Vec::new(alloc);
+    if let Err(refuse) = block(
+        alloc,
+        layout.lines.items(),
+        layout.after.items(),
+        0,
+        &mut variables,
+        &mut draft,
+    ) {
+        return Err(refuse);
+    }
+    end(layout.count + 1, draft)
+}
+
+// The end of a text whose lines are fewer than `number` by one.
+fn end(number: u32, draft: Builder) -> Result<Builder, Refuse>
+    ensures { Answers result (ended number draft) }
+{
+    if draft.stage.may_end() {
+        Ok(draft)
+    } else {
+        Err(Refuse::Refused(Refusal::Line(number)))
+    }
+}

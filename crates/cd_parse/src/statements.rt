@@ -1,0 +1,61 @@
+ghost use Rattle.std.specs.Prelude.{◌≡◌};
+ghost use Rattle.cd_words.specs.Steps.{Steps};
+ghost use Rattle.cd_parse.specs.Statements.{statement, statement_in};
+
+use crate::draft::Builder;
+use crate::heads::{
+    cd, domain, end, faults, group, kind_statement, operation, preserve, region_statement, strike,
+};
+use cd_base::Bytes;
+use cd_words::{Stop, Variable, Wrong};
+use std::alloc::Global;
+
+/// A statement of these words.
+#[tactic(auto, unfolding(crate::specs::Statements::statement_in))]
+pub(crate) fn statement(
+    alloc: Global,
+    variables: &[Variable],
+    words: &[Bytes],
+    draft: &mut Builder,
+) -> Result<(), Stop>
+    ensures { Steps draft.new result (statement_in variables.now words.now draft.old) }
+{
+    match words {
+        [] => Err(Stop::Wrong(Wrong::Form)),
+        [keyword, rest @ ..] => by_keyword(alloc, variables, draft, keyword.as_slice(), rest),
+    }
+}
+
+// A statement by its first word and those behind it.
+#[tactic(auto, unfolding(crate::specs::Statements::statement))]
+fn by_keyword(
+    alloc: Global,
+    variables: &[Variable],
+    draft: &mut Builder,
+    keyword: &[u8],
+    rest: &[Bytes],
+) -> Result<(), Stop>
+    ensures { Steps draft.new result (statement variables.now draft.old keyword.now rest.now) }
+{
+    if keyword == b"cd".as_slice() {
+        cd(alloc, draft, rest)
+    } else if keyword == b"kind".as_slice() {
+        kind_statement(alloc, draft, rest)
+    } else if keyword == b"region".as_slice() {
+        region_statement(alloc, variables, draft, rest)
+    } else if keyword == b"domain".as_slice() {
+        domain(alloc, variables, draft, rest)
+    } else if keyword == b"preserve".as_slice() {
+        preserve(variables, draft, rest)
+    } else if keyword == b"group".as_slice() {
+        group(alloc, draft, rest)
+    } else if keyword == b"end".as_slice() {
+        end(draft, rest)
+    } else if keyword == b"faults".as_slice() {
+        faults(draft, rest)
+    } else if keyword == b"strike".as_slice() {
+        strike(alloc, variables, draft, rest)
+    } else {
+        operation(variables, draft, keyword, rest)
+    }
+}
