@@ -1,0 +1,19 @@
+pub mod PrintLemmas
+pub mod ProgramLemmas
+pub mod Cuts
+pub mod LinesBack
+pub mod ReadsBack
+pub mod NumbersBack
+pub mod NamesBack
+pub mod OpsBack
+pub mod KindsBack
+pub mod HeadsBack
+pub mod TreeViews
+pub mod TreeBack
+pub mod MarksBack
+pub mod DocumentBack
+pub mod WordsBack
+pub mod ViewBack
+pub mod ListBack
+pub mod ReadBack
+mod Worked
