@@ -1,0 +1,77 @@
+use cd_base::MemorySink;
+use cd_cover::plan;
+use cd_foot::{Footprints, disjoint};
+use cd_parse::read_document;
+use cd_print::print_document;
+use cd_script::accept;
+use cd_tree::{Document, Refusal, Refuse};
+use std::alloc::Global;
+use std::test::Fail;
+
+/// Some texts, one behind the other.
+pub(crate) fn joined(alloc: Global, parts: &[&str]) -> Result<String, Fail> {
+    let mut text = String::new(alloc);
+    for part in parts {
+        text.push_str(part)?;
+    }
+    Ok(text)
+}
+
+/// The document that a text is, or its refusal.
+pub(crate) fn read(alloc: Global, text: &str) -> Result<Result<Document, Refusal>, Fail> {
+    let bytes = text.as_bytes();
+    if bytes.len() > 1048576 {
+        return Ok(Err(Refusal::TooLong));
+    }
+    match read_document(alloc, bytes) {
+        Ok(document) => Ok(Ok(document)),
+        Err(refuse) => Ok(Err(refused(refuse)?)),
+    }
+}
+
+/// The first refusal of a text: by the reader, by siblings that interfere, by the plan, by the script.
+pub(crate) fn first_refusal(alloc: Global, text: &str) -> Result<Option<Refusal>, Fail> {
+    match read(alloc, text)? {
+        Ok(document) => refusal_of(alloc, &document),
+        Err(refusal) => Ok(Some(refusal)),
+    }
+}
+
+fn refusal_of(alloc: Global, document: &Document) -> Result<Option<Refusal>, Fail> {
+    let feet = Footprints::of(alloc, &document.tree)?;
+    if let Err(refusal) = disjoint(&document.tree, &feet) {
+        return Ok(Some(refusal));
+    }
+    if let Err(refuse) = plan(alloc, &document.tree, &feet) {
+        return Ok(Some(refused(refuse)?));
+    }
+    match accept(alloc, &document.tree, &feet, &document.faults) {
+        Ok(_) => Ok(None),
+        Err(refuse) => Ok(Some(refused(refuse)?)),
+    }
+}
+
+/// A refusal, where there was memory.
+pub(crate) fn refused(refuse: Refuse) -> Result<Refusal, Fail> {
+    match refuse {
+        Refuse::Refused(refusal) => Ok(refusal),
+        Refuse::NoMemory => Err(Fail::new("there was no memory")),
+    }
+}
+
+/// The canonical text of the document that a text is.
+pub(crate) fn canonical(alloc: Global, text: &str) -> Result<Vec<u8>, Fail> {
+    match read(alloc, text)? {
+        Ok(document) => printed(alloc, &document),
+        Err(_) => Err(Fail::new("the text is refused")),
+    }
+}
+
+/// The canonical text of a document.
+pub(crate) fn printed(alloc: Global, document: &Document) -> Result<Vec<u8>, Fail> {
+    let mut sink = MemorySink::new(alloc, 4096, Vec::new(alloc));
+    match print_document(alloc, document, &mut sink) {
+        Ok(()) => Ok(Vec::from_slice(alloc, sink.bytes())?),
+        Err(_) => Err(Fail::new("the text was not written")),
+    }
+}

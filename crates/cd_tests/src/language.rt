@@ -1,0 +1,146 @@
+use crate::documents::{canonical, joined, printed, read};
+use cd_print::lifted;
+use cd_tree::{Refusal, Which};
+use std::alloc::Global;
+use std::test::Fail;
+
+/// What a text is refused for by the reader, if it is.
+fn refusal(alloc: Global, text: &str) -> Result<Option<Refusal>, Fail> {
+    match read(alloc, text)? {
+        Ok(_) => Ok(None),
+        Err(refusal) => Ok(Some(refusal)),
+    }
+}
+
+const HEAD: &str = "cd 1\nregion y 4 const 0\n";
+
+const ROOT: &str = "domain root retry 2 detects flip\npreserve y copy\n";
+
+#[test]
+fn each_mistake_has_its_refusal(rt: HostRuntime) -> Result<(), Fail> {
+    let alloc = rt.alloc();
+    for (regions, root, body, answer) in [
+        ("", "", "", Some(Refusal::Line(1))),
+        (HEAD, ROOT, "fill y 7\n", Some(Refusal::Line(6))),
+        (HEAD, ROOT, "fill y 7\nend\n", None),
+        (HEAD, ROOT, "fil y 7\nend\n", Some(Refusal::Line(5))),
+        (
+            HEAD,
+            ROOT,
+            "fill q 7\nend\n",
+            Some(Refusal::UnknownRegion(5)),
+        ),
+        (
+            HEAD,
+            ROOT,
+            "fill y[4] 7\nend\n",
+            Some(Refusal::OutsideRegion(5)),
+        ),
+        (HEAD, ROOT, "copy y y[0..3]\nend\n", Some(Refusal::Shape(5))),
+        (
+            HEAD,
+            ROOT,
+            "fill y 2-3\nend\n",
+            Some(Refusal::Arithmetic(5)),
+        ),
+        (
+            HEAD,
+            ROOT,
+            "fill q 18446744073709551616\nend\n",
+            Some(Refusal::Arithmetic(5)),
+        ),
+        (
+            HEAD,
+            ROOT,
+            "fill q 18446744073709551616+b\nend\n",
+            Some(Refusal::Line(5)),
+        ),
+        (HEAD, ROOT, "for a in 3..3\nno statement\nend\nend\n", None),
+        (
+            HEAD,
+            ROOT,
+            "group\nfor a in 3..3\nend\nend\nend\n",
+            Some(Refusal::Line(8)),
+        ),
+        (
+            "cd 1\nregion y 4 const 0\nregion y 1 const 0\n",
+            ROOT,
+            "end\n",
+            Some(Refusal::NameTaken(3)),
+        ),
+        (
+            HEAD,
+            "domain root retry 101 detects flip\n",
+            "end\n",
+            Some(Refusal::Limit(Which::Retry, 101)),
+        ),
+        (
+            HEAD,
+            "domain root retry 2 detects flip,flip\n",
+            "end\n",
+            Some(Refusal::Line(3)),
+        ),
+        (
+            "cd 1\nfor a in 0..70000\nend\n",
+            ROOT,
+            "end\n",
+            Some(Refusal::Limit(Which::Lines, 65537)),
+        ),
+        (
+            "cd 2\nkind seu\nkind seu\nregion y 4 const 0\n",
+            ROOT,
+            "end\n",
+            Some(Refusal::NameTaken(3)),
+        ),
+        (
+            "cd 2\nkind seu\nregion y 4 const 0\n",
+            ROOT,
+            "end\n",
+            Some(Refusal::Line(4)),
+        ),
+        (
+            "cd 2\nkind flip halt\nregion y 4 const 0\n",
+            ROOT,
+            "end\n",
+            None,
+        ),
+    ] {
+        let text = joined(alloc, &[regions, root, body])?;
+        assert_eq!(rt; refusal(alloc, text.as_str())?, answer);
+    }
+    Ok(())
+}
+
+/// Domains in loops, with names and numbers that are computed, and comments.
+const LOOPS: &str =
+    "cd 1 # three workers\nregion y 3*4 iota 0 1\ndomain root retry 2 detects node\npreserve y copy\ngroup\nfor a in 0..2\ndomain w:a+1 retry a+1 detects lost,flip\npreserve y[4*a..4*a+4] refer\nend\nend\nend\ngroup\ndomain only retry 1 detects none\nend\nend\nend\nfaults\nstrike root/w:1 1 0 flip y[2*1] 255\n";
+
+/// The same without them.
+const PLAIN: &str =
+    "region y 12 iota 0 1\ndomain root retry 2 detects node\npreserve y[0..12] copy\ngroup\ndomain w1 retry 1 detects flip,lost\npreserve y[0..4] refer\nend\ndomain w2 retry 2 detects flip,lost\npreserve y[4..8] refer\nend\nend\ndomain only retry 1 detects none\nend\nend\nfaults\nstrike root/w1 1 0 flip y[2] 255\n";
+
+const KINDS: &str = "cd 2\nkind flip\nkind lost\nkind link\nkind node\n";
+
+#[test]
+fn canonical_texts_are_written_and_read_back(rt: HostRuntime) -> Result<(), Fail> {
+    let alloc = rt.alloc();
+    let plain = joined(alloc, &["cd 1\n", PLAIN])?;
+    let named = joined(alloc, &[KINDS, PLAIN])?;
+    assert_eq!(rt; canonical(alloc, LOOPS)?.as_slice(), plain.as_bytes());
+    assert_eq!(rt;
+        canonical(alloc, plain.as_str())?.as_slice(),
+        plain.as_bytes()
+    );
+    assert_eq!(rt;
+        canonical(alloc, named.as_str())?.as_slice(),
+        named.as_bytes()
+    );
+    match read(alloc, LOOPS)? {
+        Ok(document) => assert_eq!(rt;
+            printed(alloc, &lifted(document))?.as_slice(),
+            named.as_bytes()
+        ),
+        Err(_) => return Err(Fail::new("the text is refused")),
+    }
+    Ok(())
+}
