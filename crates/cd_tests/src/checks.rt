@@ -207,6 +207,23 @@ fn strikes_are_refused_by_their_first_cause(rt: HostRuntime) -> Result<(), Fail>
     Ok(())
 }
 
+#[test]
+fn members_may_share_what_they_only_read(rt: HostRuntime) -> Result<(), Fail> {
+    let alloc = rt.alloc();
+    let text = joined(
+        alloc,
+        &[
+            "cd 1\nregion x 2 iota 5 1\nregion y 2 const 0\nregion z 2 const 0\ndomain root retry 1 detects none\n",
+            "preserve x copy\npreserve y copy\npreserve z copy\ngroup\n",
+            "domain b retry 2 detects flip\npreserve x refer\npreserve y copy\ncopy y x\nend\n",
+            "domain c retry 2 detects flip\npreserve x refer\npreserve z copy\ncopy z x\nend\nend\nend\n",
+            "faults\nstrike root/b 1 0 flip x[0] 1\n",
+        ],
+    )?;
+    assert_eq!(rt; first_refusal(alloc, text.as_str())?, None);
+    Ok(())
+}
+
 /// The need of a domain of a program, by its number.
 fn need_of(alloc: Global, tree: &Tree, node: u32) -> Result<u32, Fail> {
     let feet = Footprints::of(alloc, tree)?;
