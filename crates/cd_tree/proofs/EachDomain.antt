@@ -94,7 +94,7 @@ from_each tree is P each =
     views_throughout P 0 tree.domains (λ k d found. each (record { 0 = k }) d found) 0 (root_of tree.domains)
     (root_there tree.domains is.some)
 
-number_there : (at : ℕ) (domains : List Domain) (k : ℕ) (d : Node) → slice_get (nodes_from at domains) k ≡ Some d → number_of d ≡ at + k
+pub number_there : (at : ℕ) (domains : List Domain) (k : ℕ) (d : Node) → slice_get (nodes_from at domains) k ≡ Some d → number_of d ≡ at + k
 number_there at [] k d is = absurd (cc)
 number_there at (domain ∷ domains) zero d is =
     let views : List Node = nodes_from (suc at) domains in

@@ -31,3 +31,10 @@ mod WorkedRefusals
 pub mod Differ
 pub mod Walk
 pub mod Apart
+pub mod BeginsParts
+pub mod BeginsStates
+pub mod BeginsOthers
+pub mod BeginsOwn
+pub mod BeginsReading
+pub mod BeginsTree
+pub mod BeginsSaid

@@ -10,4 +10,5 @@ pub mod Record
 pub mod Legal
 pub mod Paths
 pub mod Refusals
+pub mod Begins
 pub mod Laws

@@ -1,5 +1,6 @@
 //! The laws of the reading, each the contract of a function that does nothing: to call it is to have the law.
 
+ghost use Rattle.cd_tree.specs.Begins.{BeginsFollowFailures};
 ghost use Rattle.cd_tree.specs.Laws.{RepeatsAreAtMostStrikes, StrikesAreAtMostEntries, RepeatsAreAtMostEntries, CountsAreAtMostOneMoreThanEntries, NestedViewFollows, NoLeakHalts, FoundAtRoots, FoundInPrograms, PathsDiffer, CoveredReach, ReachIsEntries, DisjointByDomains, CoveredByDomains, DetectableByPaths, NeedIsRoots, ParentsComeFirst, PathsGoDown, WordsStay};
 
 /// No more tries are repeated than faults strike, and no more faults strike than the script has entries.
@@ -68,4 +69,10 @@ pub fn paths_go_from_parent_to_child()
 /// Computing takes no word away.
 pub fn words_stay()
     ensures { WordsStay }
+{}
+
+/// Between two begins of a domain its parent began, or its own try failed and it has not ended: a sibling's failure begins
+/// nobody else.
+pub fn begins_follow_failures()
+    ensures { BeginsFollowFailures }
 {}
