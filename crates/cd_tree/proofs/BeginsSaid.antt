@@ -6,7 +6,7 @@ use Rattle.cd_tree.specs.declared.domain.NodeId.{NodeId}
 use Rattle.cd_tree.specs.declared.domain.Domain.{Domain}
 use Rattle.cd_tree.specs.declared.event.Event.{Event}
 use Rattle.cd_tree.specs.declared.event.Event.TheVariants.{Begin, Saved, Fell, Lapsed, Refilled, Reached, Halted, Found, Complete, Escalate}
-use Rattle.cd_tree.specs.Begins.{ParentBegins, TryFails, StaysOpen, BeginsNot, BeginsFollowFailures}
+use Rattle.cd_tree.specs.Begins.{ParentBegins, TryFails, StaysOpen, DoesNotBegin, BeginsFollowFailures}
 use Rattle.cd_tree.proofs.BeginsParts.{state_behind, state-append}
 use Rattle.cd_tree.proofs.BeginsStates.{State, ready, trying, failed, over, wrong, renewed, hurt, ended, is_number, at_begin, at_found, at_complete, at_escalate, along, IsRight, IsFree}
 use Rattle.cd_tree.proofs.BeginsTree.{parent_in, has_parent, record_right}
@@ -103,7 +103,7 @@ is_number_of None id e = absurd (cc)
 is_number_of (Some other) id e = ap Some (same_id id other e)
 
 says_begin : (domains : List Domain) (id node : NodeId) (number : ℕ) (xs : List Event) (s : State) (own parent : Bool)
-    → (id.0 == node.0) ≡ own → is_number (parent_in domains id.0) node.0 ≡ parent → BeginsNot id (Begin node number ∷ xs)
+    → (id.0 == node.0) ≡ own → is_number (parent_in domains id.0) node.0 ≡ parent → DoesNotBegin id (Begin node number ∷ xs)
     → Says domains id (at_begin own parent s) xs → Says domains id s (Begin node number ∷ xs)
 says_begin domains id node number xs s true parent e f not_it said =
     let same : node ≡ id = same_id id node e in
@@ -157,7 +157,7 @@ says_escalate domains id node xs s false false e f said =
     says_later domains id (Escalate node) xs s
     (λ ends. elim ends [ inl c ↦ absurd (cc) | inr c ↦ eqb-false id.0 node.0 e (cc) ]) said
 
-says_before : (domains : List Domain) (id : NodeId) (x : Event) (xs : List Event) (s : State) → BeginsNot id (x ∷ xs)
+says_before : (domains : List Domain) (id : NodeId) (x : Event) (xs : List Event) (s : State) → DoesNotBegin id (x ∷ xs)
     → Says domains id (along (parent_in domains) id.0 s x) xs → Says domains id s (x ∷ xs)
 says_before domains id (Begin node number) xs s not_it said =
     says_begin domains id node number xs s (id.0 == node.0) (is_number (parent_in domains id.0) node.0) refl refl not_it said
@@ -187,7 +187,7 @@ says_nothing domains id failed free = inr (none_there (Complete id), none_there 
 says_nothing domains id over free = absurd free
 says_nothing domains id wrong free = absurd free
 
-says_up_to : (domains : List Domain) (id : NodeId) (xs : List Event) (s : State) → BeginsNot id xs
+says_up_to : (domains : List Domain) (id : NodeId) (xs : List Event) (s : State) → DoesNotBegin id xs
     → IsFree (state_behind (along (parent_in domains) id.0) s xs) → Says domains id s xs
 says_up_to domains id [] s not_it free = says_nothing domains id s free
 says_up_to domains id (x ∷ xs) s not_it free =

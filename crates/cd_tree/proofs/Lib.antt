@@ -38,3 +38,4 @@ pub mod BeginsOwn
 pub mod BeginsReading
 pub mod BeginsTree
 pub mod BeginsSaid
+pub mod BeginsNumbers

@@ -1,5 +1,5 @@
 -- When a domain begins again: the law that a sibling's failure begins nobody else.
-use Rattle.std.specs.Prelude.{◌≡◌, ◌≢◌, ◌⊎◌, ℕ, List, ◌∷◌, ◌++◌, Some, slice_get, IsSomeAnd, Contains}
+use Rattle.std.specs.Prelude.{◌≡◌, ◌≢◌, ◌⊎◌, ℕ, ◌+◌, List, ◌∷◌, ◌++◌, Some, slice_get, IsSomeAnd, Contains}
 use Rattle.cd_tree.specs.declared.domain.NodeId.{NodeId}
 use Rattle.cd_tree.specs.declared.domain.Domain.{Domain}
 use Rattle.cd_tree.specs.declared.document.Fault.{Fault}
@@ -35,13 +35,21 @@ abbrev pub StaysOpen : NodeId → List Event → Type 0
 StaysOpen id events = (Contains events (Complete id) → ⊥) × (Contains events (Escalate id) → ⊥)
 
 -- the domain does not begin among these events
-abbrev pub BeginsNot : NodeId → List Event → Type 0
-BeginsNot id events = (number : ℕ) → Contains events (Begin id number) → ⊥
+abbrev pub DoesNotBegin : NodeId → List Event → Type 0
+DoesNotBegin id events = (number : ℕ) → Contains events (Begin id number) → ⊥
 
 -- between two begins of a domain its parent begins, or its own try fails and it stays open
 abbrev pub BeginsFollowFailures : Type 0
 BeginsFollowFailures =
     (tree : Outline) (faults : List Fault) → IsTree tree → (id : NodeId) (first second : ℕ) (before between behind : List Event)
     → record_of tree faults ≡ before ++ Begin id first ∷ (between ++ Begin id second ∷ behind)
-    → BeginsNot id between
+    → DoesNotBegin id between
     → ParentBegins tree.domains id between ⊎ (TryFails tree.domains id between × StaysOpen id between)
+
+-- the next begin of a domain has the next number
+abbrev pub BeginsNumberOn : Type 0
+BeginsNumberOn =
+    (tree : Outline) (faults : List Fault) (id : NodeId) (first second : ℕ) (before between behind : List Event)
+    → record_of tree faults ≡ before ++ Begin id first ∷ (between ++ Begin id second ∷ behind)
+    → DoesNotBegin id between
+    → second ≡ first + 1

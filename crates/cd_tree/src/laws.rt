@@ -1,6 +1,6 @@
 //! The laws of the reading, each the contract of a function that does nothing: to call it is to have the law.
 
-ghost use Rattle.cd_tree.specs.Begins.{BeginsFollowFailures};
+ghost use Rattle.cd_tree.specs.Begins.{BeginsFollowFailures, BeginsNumberOn};
 ghost use Rattle.cd_tree.specs.Laws.{RepeatsAreAtMostStrikes, StrikesAreAtMostEntries, RepeatsAreAtMostEntries, CountsAreAtMostOneMoreThanEntries, NestedViewFollows, NoLeakHalts, FoundAtRoots, FoundInPrograms, PathsDiffer, CoveredReach, ReachIsEntries, DisjointByDomains, CoveredByDomains, DetectableByPaths, NeedIsRoots, ParentsComeFirst, PathsGoDown, WordsStay};
 
 /// No more tries are repeated than faults strike, and no more faults strike than the script has entries.
@@ -74,5 +74,6 @@ pub fn words_stay()
 /// Between two begins of a domain its parent began, or its own try failed and it has not ended: a sibling's failure begins
 /// nobody else.
 pub fn begins_follow_failures()
-    ensures { BeginsFollowFailures }
+    ensures failures { BeginsFollowFailures }
+    ensures numbers { BeginsNumberOn }
 {}
