@@ -72,7 +72,7 @@ pub fn words_stay()
 {}
 
 /// Between two begins of a domain its parent began, or its own try failed and it has not ended: a sibling's failure begins
-/// nobody else.
+/// nobody else. The second begin has the next number.
 pub fn begins_follow_failures()
     ensures failures { BeginsFollowFailures }
     ensures numbers { BeginsNumberOn }
