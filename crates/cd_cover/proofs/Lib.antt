@@ -10,3 +10,4 @@ pub mod Coverage
 pub mod NeedLemmas
 pub mod PlanLemmas
 pub mod LinkLemmas
+pub mod OneAnswer

@@ -44,3 +44,7 @@ abbrev pub KindsChangeNoFlaw : Type 0
 KindsChangeNoFlaw =
     (tree : Outline) (kinds : List KindName) (answer : Option Refusal)
     → FirstFlaw tree.domains answer ↔ FirstFlaw (with_kinds tree kinds).domains answer
+
+-- two first flaws of a program, or a flaw and none, are the same
+abbrev pub FirstFlawIsOne : Type 0
+FirstFlawIsOne = (domains : List Domain) (one other : Option Refusal) → FirstFlaw domains one → FirstFlaw domains other → one ≡ other

@@ -1,6 +1,6 @@
 //! The laws of frames, links and flaws, each the contract of a function that does nothing: to call it is to have the law.
 
-ghost use Rattle.cd_cover.specs.Laws.{FramesGoUp, FramesEnd, LinksLead, KindsChangeNoFlaw};
+ghost use Rattle.cd_cover.specs.Laws.{FramesGoUp, FramesEnd, LinksLead, KindsChangeNoFlaw, FirstFlawIsOne};
 
 use cd_tree::laws;
 
@@ -24,4 +24,9 @@ pub fn links_lead_to_what_is_kept()
 /// Which kinds a document names, and which of them halt, changes nothing for plans.
 pub fn the_names_of_kinds_change_no_flaw()
     ensures { KindsChangeNoFlaw }
+{}
+
+/// A program has one first flaw, or none.
+pub fn a_program_has_one_first_flaw()
+    ensures { FirstFlawIsOne }
 {}

@@ -3,4 +3,5 @@ pub mod GatherLemmas
 pub mod OverlapLemmas
 pub mod TreeLemmas
 pub mod SideLemmas
+pub mod OneAnswer
 mod Worked

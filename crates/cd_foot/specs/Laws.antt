@@ -1,5 +1,6 @@
--- The law of overlaps: what holds of them in every program. It is the contract of a function of `laws`.
-use Rattle.std.specs.Prelude.{◌↔◌, List, Option}
+-- The laws of overlaps: what holds of them in every program. Each is a contract of `laws`.
+use Rattle.std.specs.Prelude.{◌≡◌, ◌↔◌, List, Option}
+use Rattle.cd_tree.specs.declared.domain.Domain.{Domain}
 use Rattle.cd_tree.specs.declared.kinds.KindName.{KindName}
 use Rattle.cd_tree.specs.declared.refusal.Refusal.{Refusal}
 use Rattle.cd_tree.specs.Outlines.{Outline, with_kinds}
@@ -10,3 +11,8 @@ abbrev pub KindsChangeNoOverlap : Type 0
 KindsChangeNoOverlap =
     (tree : Outline) (kinds : List KindName) (answer : Option Refusal)
     → FirstOverlap tree.domains answer ↔ FirstOverlap (with_kinds tree kinds).domains answer
+
+-- two first overlaps of a program, or an overlap and none, are the same
+abbrev pub FirstOverlapIsOne : Type 0
+FirstOverlapIsOne =
+    (domains : List Domain) (one other : Option Refusal) → FirstOverlap domains one → FirstOverlap domains other → one ≡ other
