@@ -25,6 +25,8 @@ mod WorkedTexts
 mod Worked
 mod WorkedLoops
 mod WorkedLimits
+mod WorkedSteps
 mod WorkedChoices
+pub mod UnrolledLemmas
 pub mod TurnLemmas
 pub mod DraftLemmas

@@ -1,22 +1,21 @@
 -- Reading from a line on: a statement, a loop, the end of a block; and the turns of a loop.
 use Rattle.std.proofs.Common.{◌≡◌, ℕ, suc, ◌+◌, ◌-◌, ◌<◌, ◌≤◌, List, ◌∷◌, length, drop, get_or, refl, sym, ap, ◌∙◌, subst, arith, drop-cons, add-one}
-use Rattle.std.specs.Prelude.{Result, Ok, Err}
+use Rattle.std.specs.Prelude.{Result, Ok}
 use Rattle.std.proofs.lemmas.List.{drop_all}
 use Rattle.cd_tree.specs.declared.refusal.Refusal.{Refusal}
 use Rattle.cd_tree.specs.declared.refusal.Refuse.{Refuse}
 use Rattle.cd_tree.specs.declared.refusal.Refuse.TheVariants as refuse
-use Rattle.cd_words.specs.declared.wrong.Wrong.{Wrong}
 use Rattle.cd_words.specs.declared.lines.Role.{Role}
 use Rattle.cd_words.specs.declared.lines.Role.TheVariants.{Says, Opens, Closes}
 use Rattle.cd_words.specs.declared.lines.Line.{Line}
 use Rattle.cd_words.specs.declared.sums.Variable.{Variable}
-use Rattle.cd_words.specs.Wrongs.{refusal_at, ◌>>=◌}
+use Rattle.cd_words.specs.Wrongs.{◌>>=◌}
 use Rattle.cd_words.specs.Steps.{Refuses}
 use Rattle.cd_words.specs.Blocks.{Block, here, put, blocks}
 use Rattle.cd_words.specs.Layouts.{Goes}
 use Rattle.cd_parse.specs.Draft.{Draft}
-use Rattle.cd_parse.specs.Reading.{taken, loop_in, looped, turns, read}
-use Rattle.cd_parse.specs.Turns.{read_from, turn_from, loop_as}
+use Rattle.cd_parse.specs.Reading.{taken, looped, turns, read}
+use Rattle.cd_parse.specs.Turns.{read_from, turn_from}
 
 made : (step : Result Draft Refusal) (go : Draft → Result Draft Refusal) (next : Draft) → step ≡ Ok next → (step >>= go) ≡ go next
 made step go next e = rw e refl
@@ -90,20 +89,6 @@ opens_refused ls at after line vs d refuse whole h e r g f k =
     (refused refuse (looped (read_from ls (at + 1)) vs line d) (λ e. read_from ls after vs e) k)
 
 -- ---- turns
-
-pub loop_refused : (body : List Variable → Draft → Result Draft Refusal) (vs us : List Variable) (line : Line) (ws : List (List ℕ)) (d : Draft) (wrong : Wrong)
-    → us ≡ vs → ws ≡ line.words → loop_in us ws ≡ Err wrong → looped body vs line d ≡ Err (refusal_at line.number wrong)
-unfolding looped
-loop_refused body vs us line ws d wrong v w e =
-    let f : loop_in vs line.words ≡ Err wrong = rw (← v, ← w) e in rw f refl
-
-pub loop_turns : (body : List Variable → Draft → Result Draft Refusal) (vs us : List Variable) (line : Line) (ws : List (List ℕ)) (d : Draft)
-    (name said : List ℕ) (low high : ℕ)
-    → us ≡ vs → ws ≡ line.words → loop_in us ws ≡ Ok (loop_as said low high) → name ≡ said
-    → looped body vs line d ≡ turns body vs name low (high - low) d
-unfolding looped
-loop_turns body vs us line ws d name said low high v w e n =
-    let f : loop_in vs line.words ≡ Ok (loop_as said low high) = rw (← v, ← w) e in rw (f, n) refl
 
 pub no_turns : (body : List Variable → Draft → Result Draft Refusal) (vs : List Variable) (name : List ℕ) (low high : ℕ) (d : Draft)
     → high ≤ low → turns body vs name low (high - low) d ≡ Ok d

@@ -6,5 +6,6 @@ pub mod Operations
 pub mod Statements
 pub mod Reading
 pub mod Turns
+pub mod Unrolled
 pub mod WellRead
 pub mod Laws

@@ -13,11 +13,11 @@ use Rattle.cd_parse.specs.declared.reading.Header.{Header}
 use Rattle.cd_parse.specs.Reading.{Loop, loop_in, variable_of, counted, read}
 
 -- a loop as the code has it
-abbrev pub loop_as : List ℕ → ℕ → ℕ → Loop
-loop_as variable low high = record { variable = variable; low = low; high = high }
+abbrev pub loop_as : Header → Loop
+loop_as header = record { variable = header.variable.now; low = header.low; high = header.high }
 
 abbrev pub ReadsLoop : List Variable → List (List ℕ) → Result Header Wrong → Type 0
-ReadsLoop variables words (Ok header) = loop_in variables words ≡ Ok (loop_as header.variable.now header.low header.high)
+ReadsLoop variables words (Ok header) = loop_in variables words ≡ Ok (loop_as header)
 ReadsLoop variables words (Err wrong) = loop_in variables words ≡ Err wrong
 
 -- the reading from this line on, to the end of its block

@@ -2,8 +2,8 @@ ghost use Rattle.std.specs.Prelude.{◌≡◌, ◌+◌, ◌<◌, ◌≤◌, ◌&
 ghost use Rattle.cd_words.specs.Steps.{Reads, Answers};
 ghost use Rattle.cd_words.specs.Layouts.{IsTable};
 ghost use Rattle.cd_words.specs.Sums.{is_base};
-ghost use Rattle.cd_parse.specs.Reading.{taken, looped, is_variable, loop_limits, bounds_part, loop_bounds, ended, draft_of};
-ghost use Rattle.cd_parse.specs.Turns.{read_from, turn_from, ReadsLoop, ReadsTurn};
+ghost use Rattle.cd_parse.specs.Reading.{taken, looped, all_turns, is_variable, loop_limits, bounds_part, loop_bounds, ended, draft_of};
+ghost use Rattle.cd_parse.specs.Turns.{read_from, turn_from, loop_as, ReadsLoop, ReadsTurn};
 
 use crate::draft::Builder;
 use crate::statements::statement;
@@ -155,6 +155,7 @@ fn block(
 
 // The loop that opens at a line.
 #[cycle(reading)]
+#[tactic(auto, unfolding(crate::specs::Reading::looped))]
 fn repeat(
     alloc: Global,
     lines: &[Line],
@@ -169,10 +170,28 @@ fn repeat(
     ensures exact { Reads draft.new result (looped (read_from lines.now (at + 1)) variables.old.items line.now draft.old) }
     ensures same { OnOk result (variables.new.items ≡ variables.old.items) }
 {
-    let header = match loop_in(variables.as_slice(), line.words.items()) {
-        Ok(header) => header,
-        Err(wrong) => return Err(Refuse::Refused(wrong.at(line.number))),
-    };
+    match loop_in(variables.as_slice(), line.words.items()) {
+        Ok(header) => all_turns(alloc, lines, after, at + 1, header, variables, draft),
+        Err(wrong) => Err(Refuse::Refused(wrong.at(line.number))),
+    }
+}
+
+// All turns of a loop, whose body begins at a line.
+#[cycle(reading)]
+fn all_turns(
+    alloc: Global,
+    lines: &[Line],
+    after: &[u32],
+    from: usize,
+    header: Header<'_>,
+    variables: &mut Vec<Variable>,
+    draft: &mut Builder,
+) -> Result<(), Refuse>
+    requires table { IsTable lines.now after.now 0 }
+    requires from { from ≤ length lines.now }
+    ensures exact { Reads draft.new result (all_turns (read_from lines.now from) variables.old.items (loop_as header.entry) draft.old) }
+    ensures same { OnOk result (variables.new.items ≡ variables.old.items) }
+{
     if header.high <= header.low {
         return Ok(());
     }
@@ -181,7 +200,7 @@ fn repeat(
         Err(NoMemory) => return Err(Refuse::NoMemory),
     };
     for value in header.low..header.high {
-        match turn(alloc, lines, after, at + 1, name, value, variables, draft) {
+        match turn(alloc, lines, after, from, name, value, variables, draft) {
             Ok(same) => name = same,
             Err(refuse) => return Err(refuse),
         }

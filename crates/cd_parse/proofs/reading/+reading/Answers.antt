@@ -1,6 +1,7 @@
-use Rattle.std.proofs.Common.{sym, ◌∙◌, refl, arith, ◌+◌}
+use Rattle.std.proofs.Common.{ℕ, List, sym, ap, ◌∙◌, arith, ◌+◌, ◌-◌}
+use Rattle.cd_parse.specs.Reading.{turns}
 use Rattle.cd_parse.specs.Turns.{read_from}
-use Rattle.cd_parse.proofs.TurnLemmas.{from_closes, from_end, says_made, says_refused, opens_made, opens_refused, loop_refused, loop_turns, no_turns, turn_made, turn_refused}
+use Rattle.cd_parse.proofs.TurnLemmas.{from_closes, from_end, says_made, says_refused, opens_made, opens_refused, no_turns, turn_made, turn_refused}
 use Rattle.cd_parse.proofs.reading.+reading.Goals as goal
 
 pub block-returns-in-Closes-clause-exact : goal.block-returns-in-Closes-clause-exact
@@ -43,36 +44,29 @@ pub block-returns-clause-exact : goal.block-returns-clause-exact
 block-returns-clause-exact t c =
     sym c.loop-at.invariant.left ∙ from_end c.args.lines.now c.loop-at.at c.loop-at.variables.items c.loop-at.draft c.loop-at-test.false
 
-pub repeat-returns-in-Err-clause-exact : goal.repeat-returns-in-Err-clause-exact
-repeat-returns-in-Err-clause-exact t c =
-    rw c.at.ensures (loop_refused (read_from c.args.lines.now (c.args.at + 1)) c.args.variables.now.items c.as_slice.result.now c.args.line.now c.items.result.now
-    c.args.draft.now c.in-Err.wrong c.as_slice.ensures.value c.items.ensures.value c.in-Err.ensures)
+pub all_turns-returns-then-header-clause-exact : goal.all_turns-returns-then-header-clause-exact
+all_turns-returns-then-header-clause-exact t c =
+    no_turns (read_from c.args.lines.now c.args.from) c.args.variables.now.items c.args.header.variable.now c.args.header.low c.args.header.high c.args.draft.now c.if-header.true
 
-pub repeat-returns-then-header-clause-exact : goal.repeat-returns-then-header-clause-exact
-repeat-returns-then-header-clause-exact t c =
-    loop_turns (read_from c.args.lines.now (c.args.at + 1)) c.args.variables.now.items c.as_slice.result.now c.args.line.now c.items.result.now
-    c.args.draft.now _ _ c.in-Ok.header.low c.in-Ok.header.high c.as_slice.ensures.value c.items.ensures.value c.in-Ok.ensures refl
-    ∙ no_turns (read_from c.args.lines.now (c.args.at + 1)) c.args.variables.now.items c.in-Ok.header.variable.now c.in-Ok.header.low c.in-Ok.header.high c.args.draft.now c.if-header.true
-
-pub repeat-returns-in-Err-turn-clause-exact : goal.repeat-returns-in-Err-turn-clause-exact
-repeat-returns-in-Err-turn-clause-exact t c =
-    turn_refused c.args.lines.now (c.args.at + 1) c.loop-value.variables.items c.loop-value.name c.loop-value.value c.in-Ok.header.high
+pub all_turns-returns-in-Err-turn-clause-exact : goal.all_turns-returns-in-Err-turn-clause-exact
+all_turns-returns-in-Err-turn-clause-exact t c =
+    turn_refused c.args.lines.now c.args.from c.loop-value.variables.items c.loop-value.name c.loop-value.value c.args.header.high
     c.loop-value.draft c.in-Err-turn.refuse _ c.loop-value-test.true
-    (c.loop-value.invariant.left ∙ sym (loop_turns (read_from c.args.lines.now (c.args.at + 1)) c.args.variables.now.items c.as_slice.result.now c.args.line.now c.items.result.now
-    c.args.draft.now _ _ c.in-Ok.header.low c.in-Ok.header.high c.as_slice.ensures.value c.items.ensures.value c.in-Ok.ensures c.in-Ok-copy_of.ensures))
+    (c.loop-value.invariant.left ∙ ap (λ (name : List ℕ). turns (read_from c.args.lines.now c.args.from) c.args.variables.now.items name c.args.header.low
+    (c.args.header.high - c.args.header.low) c.args.draft.now) c.in-Ok.ensures)
     c.in-Err-turn.ensures.exact
 
-pub repeat-loop-value-preserved : goal.repeat-loop-value-preserved
-repeat-loop-value-preserved t c = record {
-  left = rw (c.in-Ok-turn.ensures.same, c.in-Ok-turn.ensures.exact.1) (turn_made c.args.lines.now (c.args.at + 1) c.loop-value.variables.items c.loop-value.name c.loop-value.value c.in-Ok.header.high
+pub all_turns-loop-value-preserved : goal.all_turns-loop-value-preserved
+all_turns-loop-value-preserved t c = record {
+  left = rw (c.in-Ok-turn.ensures.same, c.in-Ok-turn.ensures.exact.1) (turn_made c.args.lines.now c.args.from c.loop-value.variables.items c.loop-value.name c.loop-value.value c.args.header.high
       c.loop-value.draft c.turn.new.draft _ c.loop-value-test.true c.loop-value.invariant.left c.in-Ok-turn.ensures.exact.0);
   same = c.in-Ok-turn.ensures.same ∙ c.loop-value.invariant.same;
   name = c.in-Ok-turn.ensures.exact.1 ∙ c.loop-value.invariant.name;
 }
 
-pub repeat-returns-clause-exact : goal.repeat-returns-clause-exact
-repeat-returns-clause-exact t c =
-    loop_turns (read_from c.args.lines.now (c.args.at + 1)) c.args.variables.now.items c.as_slice.result.now c.args.line.now c.items.result.now
-    c.args.draft.now _ _ c.in-Ok.header.low c.in-Ok.header.high c.as_slice.ensures.value c.items.ensures.value c.in-Ok.ensures c.in-Ok-copy_of.ensures
+pub all_turns-returns-clause-exact : goal.all_turns-returns-clause-exact
+all_turns-returns-clause-exact t c =
+    ap (λ (name : List ℕ). turns (read_from c.args.lines.now c.args.from) c.args.variables.now.items name c.args.header.low
+    (c.args.header.high - c.args.header.low) c.args.draft.now) (sym c.in-Ok.ensures)
     ∙ sym c.loop-value.invariant.left
-    ∙ no_turns (read_from c.args.lines.now (c.args.at + 1)) c.loop-value.variables.items c.loop-value.name c.loop-value.value c.in-Ok.header.high c.loop-value.draft c.loop-value-test.false
+    ∙ no_turns (read_from c.args.lines.now c.args.from) c.loop-value.variables.items c.loop-value.name c.loop-value.value c.args.header.high c.loop-value.draft c.loop-value-test.false
