@@ -169,6 +169,7 @@ fn add_blanks(cells: &mut Vec<Cell>, count: u32) -> Result<(), NoMemory>
 
 // Where the word of a place stands. The first look is at the slot of the region's number, which is the right one where
 // each region is whole.
+#[inline(always)]
 fn find_index(slots: &[Slot], place: Place) -> Option<usize>
     requires { IsInOrder slots.now }
     ensures { result ≡ index_of slots.now place }
@@ -187,7 +188,9 @@ fn has_place(range: Range, place: Place) -> bool
     range.region == place.region && range.low <= place.index && place.index < range.high
 }
 
-// The same by a search: half of what is left goes at each look.
+// The same by a search: half of what is left goes at each look. It stays out of the loops over words.
+#[cold]
+#[inline(never)]
 fn search_index(slots: &[Slot], place: Place) -> Option<usize>
     requires { IsInOrder slots.now }
     ensures { result ≡ index_of slots.now place }
