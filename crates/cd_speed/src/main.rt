@@ -22,7 +22,7 @@ const NO_MEMORY: u8 = 6;
 
 /// On what the turns run.
 #[derive(Debug, Clone, Copy)]
-enum Ground {
+enum Way {
     Field,
     Slice,
 }
@@ -36,10 +36,10 @@ fn main(rt: HostRuntime) -> ExitCode {
     let Ok(words) = collected else {
         return ExitCode::from(NO_MEMORY);
     };
-    let Some((ground, name, turns)) = call_of(words.as_slice()) else {
+    let Some((way, name, turns)) = call_of(words.as_slice()) else {
         return ExitCode::from(MISUSE);
     };
-    match sum_of_turns(alloc, ground, name, turns) {
+    match sum_of_turns(alloc, way, name, turns) {
         Ok(Some(sum)) => printed(&rt, sum),
         Ok(None) => ExitCode::from(MISUSE),
         Err(NoMemory) => ExitCode::from(NO_MEMORY),
@@ -53,36 +53,31 @@ fn printed(rt: &HostRuntime, sum: u64) -> ExitCode {
     }
 }
 
-fn call_of(words: &[String]) -> Option<(Ground, &str, u32)> {
+fn call_of(words: &[String]) -> Option<(Way, &str, u32)> {
     let (first, rest) = words.split_first()?;
     let (name, rest) = rest.split_first()?;
     let turns = rest.first()?.parse::<u32>().ok()?;
-    Some((ground_of(first.as_str())?, name.as_str(), turns))
+    Some((way_of(first.as_str())?, name.as_str(), turns))
 }
 
-fn ground_of(word: &str) -> Option<Ground> {
+fn way_of(word: &str) -> Option<Way> {
     if word == "field" {
-        Some(Ground::Field)
+        Some(Way::Field)
     } else if word == "slice" {
-        Some(Ground::Slice)
+        Some(Way::Slice)
     } else {
         None
     }
 }
 
 // The sum that the turns give, where there is an operation of this name.
-fn sum_of_turns(
-    alloc: Global,
-    ground: Ground,
-    name: &str,
-    turns: u32,
-) -> Result<Option<u64>, NoMemory> {
+fn sum_of_turns(alloc: Global, way: Way, name: &str, turns: u32) -> Result<Option<u64>, NoMemory> {
     let Some(op) = operations::named(name) else {
         return Ok(None);
     };
-    let sum = match ground {
-        Ground::Field => machine::sum_of_turns(alloc, op, turns)?,
-        Ground::Slice => Some(plain::sum_of_turns(alloc, op, turns)?),
+    let sum = match way {
+        Way::Field => machine::sum_of_turns(alloc, op, turns)?,
+        Way::Slice => Some(plain::sum_of_turns(alloc, op, turns)?),
     };
     Ok(sum)
 }
