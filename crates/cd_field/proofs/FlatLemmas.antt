@@ -237,6 +237,18 @@ index_there slots p middle order short e f =
     apart_behind (slot_at slots j).range (slot_at slots middle).range p (order.order j middle before short) t in
     cc)))
 
+-- a slot that has a place says where it stands
+pub index_in_slot : (slots : List Slot) (p : Place) (k : ℕ) (slot : Slot) → IsInOrder slots → k < length slots → slot ≡ slot_at slots k
+    → in_range slot.range p ≡ true → Some (slot.first + (p.index - slot.range.low)) ≡ index_of slots p
+index_in_slot slots p k slot order short is has =
+    let P : Slot → Type 0 = λ s. Some (s.first + (p.index - s.range.low)) ≡ index_of slots p in
+    let Q : Slot → Type 0 = λ s. in_range s.range p ≡ true in
+    let here : in_range (slot_at slots k).range p ≡ true = subst Q is has in
+    subst P (sym is) (sym (index_hit slots p k short here (λ j before. not_true _ (λ t.
+    let not : in_range (slot_at slots k).range p ≡ false =
+    apart_behind (slot_at slots j).range (slot_at slots k).range p (order.order j k before short) t in
+    cc))))
+
 -- ---- a change of one cell
 
 cell_there : (cells : List Cell) (i : ℕ) → IsSome (word_in (slice_get cells i)) → i < length cells

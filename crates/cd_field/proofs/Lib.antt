@@ -3,3 +3,4 @@ mod StrikeLemmas
 mod FlatLemmas
 mod PartLemmas
 mod EventLemmas
+mod TrialLemmas

@@ -3,3 +3,4 @@ pub mod Maps
 pub mod Flat
 pub mod EventLists
 pub mod FlatMachine
+pub mod Trials

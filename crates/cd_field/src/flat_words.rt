@@ -168,15 +168,37 @@ fn add_blanks(cells: &mut Vec<Cell>, count: u32) -> Result<(), NoMemory>
 }
 
 // Where the word of a place stands. The first look is at the slot of the region's number, which is the right one where
-// each region is whole; after that half of what is left goes at each look.
+// each region is whole.
+#[inline(always)]
 fn find_index(slots: &[Slot], place: Place) -> Option<usize>
+    requires { IsInOrder slots.now }
+    ensures { result ≡ index_of slots.now place }
+{
+    if let Some(slot) = slots.get(place.region as usize) {
+        if has_place(slot.range, place) {
+            return Some(slot.first as usize + (place.index - slot.range.low) as usize);
+        }
+    }
+    search_index(slots, place)
+}
+
+fn has_place(range: Range, place: Place) -> bool
+    ensures { result ≡ in_range range place }
+{
+    range.region == place.region && range.low <= place.index && place.index < range.high
+}
+
+// The same by a search: half of what is left goes at each look. It stays out of the loops over words.
+#[cold]
+#[inline(never)]
+fn search_index(slots: &[Slot], place: Place) -> Option<usize>
     requires { IsInOrder slots.now }
     ensures { result ≡ index_of slots.now place }
 {
     let mut low = 0;
     let mut high = slots.len();
     while low < high {
-        let middle = look_at(place.region as usize, low, high);
+        let middle = half_way(low, high);
         let slot = slots[middle];
         if ends_before(slot.range, place) {
             low = middle + 1;
@@ -189,15 +211,11 @@ fn find_index(slots: &[Slot], place: Place) -> Option<usize>
     None
 }
 
-fn look_at(guess: usize, low: usize, high: usize) -> usize
+fn half_way(low: usize, high: usize) -> usize
     requires { low < high }
     ensures { (low ≤ result) × (result < high) }
 {
-    if low <= guess && guess < high {
-        guess
-    } else {
-        low + (high - low) / 2
-    }
+    low + (high - low) / 2
 }
 
 fn ends_before(range: Range, place: Place) -> bool

@@ -19,3 +19,5 @@ pub use script_field::ScriptField;
 
 #[cfg(test)]
 mod tests;
+#[cfg(test)]
+mod trials;

@@ -10,6 +10,7 @@ use cd_field::Field;
 use cd_tree::Op;
 
 /// The word that an operation gives to the i-th word of its destination.
+#[inline(always)]
 pub(crate) fn column_word<F: Field>(op: &Op, i: u32, field: &F) -> u64
     requires direct { IsDirect op.now }
     requires full { All IsFull (op_writes op.now ∷ op_reads op.now) }

@@ -19,11 +19,23 @@ pub fn apply<F: Field>(op: &Op, field: &mut F)
 {
     match *op {
         Op::Scan(d, x) => scan(d, x, field),
-        _ => write_columns(op, field),
+        Op::Fill(d, word) => write_columns(&Op::Fill(d, word), field),
+        Op::Copy(d, x) => write_columns(&Op::Copy(d, x), field),
+        Op::Add(d, x, z) => write_columns(&Op::Add(d, x, z), field),
+        Op::Sub(d, x, z) => write_columns(&Op::Sub(d, x, z), field),
+        Op::Mul(d, x, z) => write_columns(&Op::Mul(d, x, z), field),
+        Op::Axpy(d, factor, x) => write_columns(&Op::Axpy(d, factor, x), field),
+        Op::Sum(d, x) => write_columns(&Op::Sum(d, x), field),
+        Op::Dot(d, x, z) => write_columns(&Op::Dot(d, x, z), field),
+        Op::Max(d, x) => write_columns(&Op::Max(d, x), field),
+        Op::Stencil(d, a, b, c, x) => write_columns(&Op::Stencil(d, a, b, c, x), field),
+        Op::Spmv(d, s, c, v, x) => write_columns(&Op::Spmv(d, s, c, v, x), field),
     }
 }
 
-// Any operation but `scan`: each word of the destination from the words before.
+// Any operation but `scan`: each word of the destination from the words before. It is written out for each operation, so
+// that which one it is is asked once, and not for each word.
+#[inline(always)]
 fn write_columns<F: Field>(op: &Op, field: &mut F)
     requires direct { IsDirect op.now }
     requires full { All IsFull (op_writes op.now ∷ op_reads op.now) }

@@ -6,7 +6,7 @@ ghost use Rattle.cd_kernel.specs.Board.{board, HasBoard, IsOnBoard};
 
 use crate::apply;
 use cd_base::{Items, Pattern, Place, Range, Text};
-use cd_field::{Field, MapField};
+use cd_field::{Field, MapField, ScriptField};
 use cd_tree::{Op, Region, Regions, writes};
 use std::alloc::Global;
 use std::process::Abort;
@@ -327,13 +327,24 @@ fn rows_of_a_sparse_product<F: Field>(
     Ok(())
 }
 
+fn each_table<F: Field>(rt: &impl Abort, alloc: Global, field: &mut F) -> Result<(), Fail> {
+    each_operation_in_a_row(rt, alloc, field)?;
+    words_wrap_and_rows_end(rt, alloc, field)?;
+    apart_and_in_place(rt, alloc, field)?;
+    rows_of_a_sparse_product(rt, alloc, field)?;
+    Ok(())
+}
+
 #[test]
 fn operations_on_a_field_of_maps(rt: HostRuntime) -> Result<(), Fail> {
     let alloc = rt.alloc();
     let mut field = MapField::empty(alloc);
-    each_operation_in_a_row(&rt, alloc, &mut field)?;
-    words_wrap_and_rows_end(&rt, alloc, &mut field)?;
-    apart_and_in_place(&rt, alloc, &mut field)?;
-    rows_of_a_sparse_product(&rt, alloc, &mut field)?;
-    Ok(())
+    each_table(&rt, alloc, &mut field)
+}
+
+#[test]
+fn operations_on_a_flat_field(rt: HostRuntime) -> Result<(), Fail> {
+    let alloc = rt.alloc();
+    let mut field = ScriptField::empty(alloc);
+    each_table(&rt, alloc, &mut field)
 }

@@ -1,7 +1,7 @@
 use Rattle.std.proofs.Common.{◌≡◌, ◌<◌, ◌≤◌, ◌-◌, ℕ, false, length}
 use Rattle.cd_base.specs.Words.{in_range}
 use Rattle.cd_field.specs.Flat.{slot_at}
-use Rattle.cd_field.proofs.flat_words.find_index.Given as goal
+use Rattle.cd_field.proofs.flat_words.search_index.Given as goal
 
 abbrev pub invariant-loop-low : goal.invariant-loop-low
 invariant-loop-low l = record {

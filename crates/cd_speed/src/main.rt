@@ -1,0 +1,83 @@
+//! A program that measures: it runs one operation some number of times, on a machine (`field OP TURNS`) or as a plain loop
+//! over slices (`slice OP TURNS`), and prints a sum of words that the turns gave, which is the same for both. It has no
+//! clock: `bench/operations.sh` takes the time of many turns and of few.
+#![tactic(auto)]
+
+mod machine;
+mod operations;
+mod plain;
+
+use cd_base::NoMemory;
+use std::alloc::{AllocError, Global};
+use std::env;
+use std::process::ExitCode;
+
+// The words are no such call.
+const MISUSE: u8 = 2;
+
+// Writing failed, or the system does not give the words.
+const FAULT: u8 = 4;
+
+const NO_MEMORY: u8 = 6;
+
+/// On what the turns run.
+#[derive(Debug, Clone, Copy)]
+enum Way {
+    Field,
+    Slice,
+}
+
+fn main(rt: HostRuntime) -> ExitCode {
+    let alloc = rt.alloc();
+    let Ok(arguments) = env::args(&rt) else {
+        return ExitCode::from(FAULT);
+    };
+    let collected: Result<Vec<String>, AllocError> = arguments.skip(1).collect(alloc);
+    let Ok(words) = collected else {
+        return ExitCode::from(NO_MEMORY);
+    };
+    let Some((way, name, turns)) = call_of(words.as_slice()) else {
+        return ExitCode::from(MISUSE);
+    };
+    match sum_of_turns(alloc, way, name, turns) {
+        Ok(Some(sum)) => printed(&rt, sum),
+        Ok(None) => ExitCode::from(MISUSE),
+        Err(NoMemory) => ExitCode::from(NO_MEMORY),
+    }
+}
+
+fn printed(rt: &HostRuntime, sum: u64) -> ExitCode {
+    match println!(rt; "{sum}") {
+        Ok(()) => ExitCode::from(0),
+        Err(_) => ExitCode::from(FAULT),
+    }
+}
+
+fn call_of(words: &[String]) -> Option<(Way, &str, u32)> {
+    let (first, rest) = words.split_first()?;
+    let (name, rest) = rest.split_first()?;
+    let turns = rest.first()?.parse::<u32>().ok()?;
+    Some((way_of(first.as_str())?, name.as_str(), turns))
+}
+
+fn way_of(word: &str) -> Option<Way> {
+    if word == "field" {
+        Some(Way::Field)
+    } else if word == "slice" {
+        Some(Way::Slice)
+    } else {
+        None
+    }
+}
+
+// The sum that the turns give, where there is an operation of this name.
+fn sum_of_turns(alloc: Global, way: Way, name: &str, turns: u32) -> Result<Option<u64>, NoMemory> {
+    let Some(op) = operations::named(name) else {
+        return Ok(None);
+    };
+    let sum = match way {
+        Way::Field => machine::sum_of_turns(alloc, op, turns)?,
+        Way::Slice => Some(plain::sum_of_turns(alloc, op, turns)?),
+    };
+    Ok(sum)
+}
