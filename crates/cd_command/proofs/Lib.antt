@@ -1,0 +1,5 @@
+pub mod WordLemmas
+pub mod RowLemmas
+pub mod StepLemmas
+pub mod ReadLemmas
+pub mod ParseLemmas
