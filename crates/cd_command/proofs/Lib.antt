@@ -3,3 +3,5 @@ pub mod RowLemmas
 pub mod StepLemmas
 pub mod ReadLemmas
 pub mod ParseLemmas
+pub mod HyphenLemmas
+mod Worked

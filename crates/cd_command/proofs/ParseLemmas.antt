@@ -1,10 +1,8 @@
 -- What a parse of the words comes to: the fault and the entries, against what the words give.
-use Rattle.std.proofs.Common.{◌≡◌, ◌∙◌, ℕ, Bool, cond, true, false, refl, sym, ap, subst, codes, List, [], ◌∷◌, ◌++◌, Option, Some, None, is_some, is_none}
-use Rattle.std.specs.Prelude.{⊤, option_map, option_and_then, slice_get}
+use Rattle.std.proofs.Common.{◌≡◌, ◌∙◌, cond, true, false, refl, sym, ap, subst, codes, List, [], ◌∷◌, ◌++◌, Option, Some, None, is_some}
+use Rattle.std.specs.Prelude.{option_map, option_and_then, slice_get}
 use Rattle.std.specs.List.{find, fold}
-use Rattle.std.specs.Str.{bytes_eq}
 use Rattle.clap.specs.Values.{bool_text}
-use Rattle.clap.specs.Matches.{first_value, one_text}
 use Rattle.clap.specs.Walk.{Held, Row, Rule, Text, finished, first_of, has_row, more_values, nothing_held, one_of, row_text, rows_of, walk_from, with_default, with_values}
 use Rattle.clap.specs.Simple.{built, matches_of}
 use Rattle.clap.specs.Kinds.{IsAmong, Kinds, or_else}
@@ -15,9 +13,9 @@ use Rattle.clap.specs.declared.parser.matches.ValueSource.TheVariants.{DefaultVa
 use Rattle.clap.specs.declared.builder.value_parser.Reading.TheVariants.{AsWritten}
 use Rattle.clap.proofs.FaultLemmas.{leaf_fault}
 use Rattle.clap.proofs.WalkLemmas.{first_value-rows, one_text-rows}
-use Rattle.cd_command.specs.CommandLine.{Bytes, Given, Part, action, workers, size, with_record, Seen, nothing_seen, anything, read_on, given, given_in, given_with}
+use Rattle.cd_command.specs.CommandLine.{Bytes, Part, action, workers, size, with_record, Seen, nothing_seen, anything, given, given_with}
 use Rattle.cd_command.specs.Line.{line}
-use Rattle.cd_command.specs.Parses.{AreTexts, Finds}
+use Rattle.cd_command.specs.Parses.{AreTexts, Finds, parse_on, parsed_in}
 use Rattle.cd_command.proofs.WordLemmas.{by_test}
 use Rattle.cd_command.proofs.RowLemmas.{Agreed, IsFault, Shows, at_row_absent, fault_left, find_last, has_as_seen, has_id, id_of, kept, new_row, or_last, past, row, rule, rules, top}
 use Rattle.cd_command.proofs.StepLemmas.{Agrees, end_of, rows_at, settle, total}
@@ -37,7 +35,7 @@ end words = end_of (walk_from nothing_held) words
 abbrev walk_total : List Text → Kinds
 walk_total words = total (walk_from nothing_held) words
 
-outcome : (words : List Bytes) → AreTexts words → Agrees (walk_from nothing_held) words (read_on words anything nothing_seen)
+outcome : (words : List Bytes) → AreTexts words → Agrees (walk_from nothing_held) words (parse_on words anything nothing_seen)
 outcome words are = (says words are).free [] None false (Some nothing_seen) (refl, λ p. refl) refl
 
 -- ---- the steps behind the walk
@@ -155,10 +153,10 @@ last_fault : (words : List Bytes) (seen : Seen) → walk_total words ≡ [] → 
     → Checks (fault_of line words) (seen action)
 last_fault words seen none shows =
     let same : fault_of line words ≡ check_fault top (with_flag (rows_at (end words))) false =
-        fault_parts words
-        ∙ (past (walk_total words) (behind words) none
-        ∙ (past (defaults_fault (rows_at (end words)) rules) (check_fault top (finished rules (end words)) false) (defaults_none (rows_at (end words)))
-        ∙ ap (λ rows. check_fault top rows false) (finished_is (rows_at (end words))))) in
+    fault_parts words
+    ∙ (past (walk_total words) (behind words) none
+    ∙ (past (defaults_fault (rows_at (end words)) rules) (check_fault top (finished rules (end words)) false) (defaults_none (rows_at (end words)))
+    ∙ ap (λ rows. check_fault top rows false) (finished_is (rows_at (end words))))) in
     subst (λ k. Checks k (seen action)) (sym same)
     (checked (with_flag (rows_at (end words))) (seen action) (finals (rows_at (end words)) seen shows action))
 
@@ -195,22 +193,22 @@ finds f rows seen same shows =
 
 -- a parse with no fault finds what the words give
 pub taken : (words : List Bytes) (f : Found) → AreTexts words → fault_of line words ≡ [] → rows_of f ≡ matches_of line words
-    → (seen : Seen) × (given_in words ≡ given seen) × Finds f seen
-taken words f are none same = go (read_on words anything nothing_seen) refl (outcome words are)
+    → (seen : Seen) × (parsed_in words ≡ given seen) × Finds f seen
+taken words f are none same = go (parse_on words anything nothing_seen) refl (outcome words are)
   where
-    go : (o : Option Seen) → read_on words anything nothing_seen ≡ o → Agreed (walk_total words) (rows_at (end words)) o
-        → (seen : Seen) × (given_in words ≡ given seen) × Finds f seen
+    go : (o : Option Seen) → parse_on words anything nothing_seen ≡ o → Agreed (walk_total words) (rows_at (end words)) o
+        → (seen : Seen) × (parsed_in words ≡ given seen) × Finds f seen
     go None e h = absurd (no_fault (fault_of line words) (subst IsFault (sym (fault_parts words)) (fault_left (walk_total words) (behind words) h)) none)
     go (Some seen) e h = (seen, ap (option_and_then given) e, finds f (rows_at (end words)) seen (same ∙ finished_is (rows_at (end words))) h.1)
 
 -- a parse with a fault is of words that give nothing
-pub refused : (words : List Bytes) → AreTexts words → IsFault (fault_of line words) → given_in words ≡ None
-refused words are fault = go (read_on words anything nothing_seen) refl (outcome words are)
+pub refused : (words : List Bytes) → AreTexts words → IsFault (fault_of line words) → parsed_in words ≡ None
+refused words are fault = go (parse_on words anything nothing_seen) refl (outcome words are)
   where
     by_action : (seen : Seen) (o : Option Bytes) → seen action ≡ o → Checks (fault_of line words) o → given seen ≡ None
     by_action seen None e h = ap (λ o. option_map (given_with seen) o) e
     by_action seen (Some text) e h = absurd (no_fault (fault_of line words) fault h)
 
-    go : (o : Option Seen) → read_on words anything nothing_seen ≡ o → Agreed (walk_total words) (rows_at (end words)) o → given_in words ≡ None
+    go : (o : Option Seen) → parse_on words anything nothing_seen ≡ o → Agreed (walk_total words) (rows_at (end words)) o → parsed_in words ≡ None
     go None e h = ap (option_and_then given) e
     go (Some seen) e h = ap (option_and_then given) e ∙ by_action seen (seen action) refl (last_fault words seen h.0 h.1)

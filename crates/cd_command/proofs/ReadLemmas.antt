@@ -1,14 +1,14 @@
 -- The walk of the parser over the words gives what the words give.
-use Rattle.std.proofs.Common.{◌≡◌, ◌∙◌, ℕ, Bool, true, false, refl, sym, ap, subst, List, [], ◌∷◌, Option, Some, None, is_some, true≢false}
-use Rattle.std.specs.Prelude.{⊤, option_and_then}
-use Rattle.clap.specs.Walk.{Held, Row, Step, Text, Waiting, idle, option, value, Walk, after_step, used, walked}
+use Rattle.std.proofs.Common.{◌≡◌, ◌∙◌, Bool, true, false, refl, sym, subst, List, [], ◌∷◌, Option, Some, None, is_some, true≢false}
+use Rattle.std.specs.Prelude.{option_and_then}
+use Rattle.clap.specs.Walk.{Row, Text, Waiting, idle, option, value, Walk, after_step, used, walked}
 use Rattle.clap.specs.Kinds.{Kinds, or_else}
-use Rattle.clap.specs.Faults.{long_fault, step_fault, turn_fault, use_fault, walk_fault}
-use Rattle.cd_command.specs.CommandLine.{Bytes, Kind, dashes, named, hyphened, plain, kind_of, Name, for_workers, for_size, for_record, for_nothing, name_of, Part, action, workers, size, with_record, Seen, put, put_first, Wanted, anything, value_for, all_positional, by_name, by_kind, at_end, read_on}
-use Rattle.cd_command.specs.Parses.{AreTexts}
+use Rattle.clap.specs.Faults.{step_fault, turn_fault, use_fault, walk_fault}
+use Rattle.cd_command.specs.CommandLine.{Bytes, Kind, dashes, named, hyphened, plain, kind_of, Name, for_workers, for_size, for_record, for_nothing, name_of, Part, action, workers, size, with_record, Seen, put, put_first, anything, value_for, all_positional, by_name, by_kind}
+use Rattle.cd_command.specs.Parses.{AreTexts, parse_on, parse_value}
 use Rattle.cd_command.proofs.WordLemmas.{IsKind, sort}
-use Rattle.cd_command.proofs.RowLemmas.{Agreed, IsFault, Shows, fault_left, fault_right, id_of, or_none, past, rule, rule_named, rules, top, used_once, values_of}
-use Rattle.cd_command.proofs.StepLemmas.{Agrees, Holds, Placed, TakesValue, dashes_turn, dashes_walk, end_of, first_turn, first_walk, go_on, held, held_action, held_once, hyphened_turn, name_doomed, name_turn, name_walk, named_turn, named_walk, place, plain_turn, plain_walk, rows_at, second_turn, settle, state, stop_here, total, trailing_turn, trailing_walk, value_turn, value_walk, wanting, wanting_fault}
+use Rattle.cd_command.proofs.RowLemmas.{Agreed, IsFault, Shows, fault_left, id_of, or_none, past, rule, rule_named, rules, top, used_once, values_of}
+use Rattle.cd_command.proofs.StepLemmas.{Agrees, Holds, Placed, TakesValue, dashes_turn, dashes_walk, first_turn, first_walk, go_on, held, held_action, held_once, hyphened_turn, name_doomed, name_turn, name_walk, named_turn, named_walk, place, plain_turn, plain_walk, rows_at, second_turn, settle, state, stop_here, trailing_turn, trailing_walk, value_turn, value_walk, wanting, wanting_fault}
 
 abbrev Pending : Type 0
 Pending = Option (Text × List Text)
@@ -17,16 +17,16 @@ Pending = Option (Text × List Text)
 -- behind `--`
 pub record Says (words : List Bytes) : Type 0 where
   pub free : (rows : List Row) (pending : Pending) (met : Bool) (o : Option Seen) → Holds (held rows pending) o → Placed met o
-      → Agrees (state (held rows pending) idle met false) words (option_and_then (λ seen. read_on words anything seen) o)
+      → Agrees (state (held rows pending) idle met false) words (option_and_then (λ seen. parse_on words anything seen) o)
   pub waits : (p : Part) (rows : List Row) (met : Bool) (seen : Seen) → TakesValue p → Shows rows seen → Placed met (Some seen)
-      → Agrees (state (wanting rows p) (option (id_of p)) met false) words (read_on words (value_for p) seen)
+      → Agrees (state (wanting rows p) (option (id_of p)) met false) words (parse_on words (value_for p) seen)
   pub trails : (rows : List Row) (pending : Pending) (waiting : Waiting) (met : Bool) (o : Option Seen) → Holds (held rows pending) o → Placed met o
       → Agrees (state (held rows pending) waiting met true) words (option_and_then (λ seen. all_positional words seen) o)
 
 -- ---- no word is left
 
 none_free : (rows : List Row) (pending : Pending) (met : Bool) (o : Option Seen) → Holds (held rows pending) o
-    → Agrees (state (held rows pending) idle met false) [] (option_and_then (λ seen. read_on [] anything seen) o)
+    → Agrees (state (held rows pending) idle met false) [] (option_and_then (λ seen. parse_on [] anything seen) o)
 unfolding walk_fault
 none_free rows pending met None h = h
 none_free rows pending met (Some seen) h = h
@@ -38,7 +38,7 @@ none_trails rows pending waiting met None h = h
 none_trails rows pending waiting met (Some seen) h = h
 
 none_waits : (p : Part) (rows : List Row) (met : Bool) (seen : Seen) → TakesValue p
-    → Agrees (state (wanting rows p) (option (id_of p)) met false) [] (read_on [] (value_for p) seen)
+    → Agrees (state (wanting rows p) (option (id_of p)) met false) [] (parse_on [] (value_for p) seen)
 unfolding walk_fault
 none_waits p rows met seen t = wanting_fault p rows t
 
@@ -115,10 +115,10 @@ then_used p text fault rows seen e shows =
 -- a word that uses a part at once
 at_once : (w : Walk) (rows : List Row) (met : Bool) (fault : Kinds) (word : Text) (words : List Bytes) (o : Option Seen) → Says words → Agreed fault rows o → Placed met o
     → turn_fault top [] w word ≡ fault → walked rules [] w word ≡ state (held rows None) idle met false
-    → Agrees w (word ∷ words) (option_and_then (λ seen. read_on words anything seen) o)
+    → Agrees w (word ∷ words) (option_and_then (λ seen. parse_on words anything seen) o)
 at_once w rows met fault word words None rest h at turn walk = stop_here w word words (subst IsFault (sym turn) h)
 at_once w rows met fault word words (Some seen) rest h at turn walk =
-    go_on w (state (held rows None) idle met false) word words (read_on words anything seen) walk (turn ∙ h.0)
+    go_on w (state (held rows None) idle met false) word words (parse_on words anything seen) walk (turn ∙ h.0)
     (rest.free rows None met (Some seen) (refl, h.1) at)
 
 -- ---- one word, where nothing waits
@@ -131,12 +131,12 @@ module _ (word : Text) (words : List Bytes) (rest : Says words) (rows : List Row
   free_name : (n : Name) (v : Option Text) (seen : Seen) → Holds (held rows pending) (Some seen) → Placed met (Some seen)
       → turn_fault top [] here word ≡ name_turn (held rows pending) idle met word (rule_named n) v
       → walked rules [] here word ≡ name_walk (held rows pending) idle met word (rule_named n) v
-      → Agrees here (word ∷ words) (by_name n v seen (read_on words))
+      → Agrees here (word ∷ words) (by_name n v seen (parse_on words))
   free_name for_workers None seen h at turn walk =
-      go_on here (state (wanting (rows_at (held rows pending)) workers) (option (id_of workers)) met false) word words (read_on words (value_for workers) seen)
+      go_on here (state (wanting (rows_at (held rows pending)) workers) (option (id_of workers)) met false) word words (parse_on words (value_for workers) seen)
       walk (turn ∙ (or_none (settle (held rows pending)) ∙ h.0)) (rest.waits workers (rows_at (held rows pending)) met seen tt h.1 at)
   free_name for_size None seen h at turn walk =
-      go_on here (state (wanting (rows_at (held rows pending)) size) (option (id_of size)) met false) word words (read_on words (value_for size) seen)
+      go_on here (state (wanting (rows_at (held rows pending)) size) (option (id_of size)) met false) word words (parse_on words (value_for size) seen)
       walk (turn ∙ (or_none (settle (held rows pending)) ∙ h.0)) (rest.waits size (rows_at (held rows pending)) met seen tt h.1 at)
   free_name for_workers (Some v) seen h at turn walk =
       at_once here (used (rule workers) (v ∷ []) (rows_at (held rows pending))) met _ word words (put workers v seen) rest
@@ -151,7 +151,7 @@ module _ (word : Text) (words : List Bytes) (rest : Says words) (rows : List Row
   free_name for_nothing v seen h at turn walk = stop_here here word words (subst IsFault (sym turn) tt)
 
   free_kind : (k : Kind) → IsKind word k → (o : Option Seen) → Holds (held rows pending) o → Placed met o
-      → Agrees here (word ∷ words) (option_and_then (λ seen. by_kind anything k word seen (read_on words) (all_positional words)) o)
+      → Agrees here (word ∷ words) (option_and_then (λ seen. by_kind k word seen (parse_on words) (all_positional words)) o)
   free_kind dashes k None h at =
       go_on here (state (held rows pending) idle met true) word words None (dashes_walk (held rows pending) idle met word refl k)
       (dashes_turn (held rows pending) idle met word refl k) (rest.trails rows pending idle met None h at)
@@ -166,7 +166,7 @@ module _ (word : Text) (words : List Bytes) (rest : Says words) (rows : List Row
   free_kind hyphened k None h at = stop_here here word words (hyphened_turn rows pending idle met word refl k)
   free_kind hyphened k (Some seen) h at = stop_here here word words (hyphened_turn rows pending idle met word refl k)
   free_kind plain k o h at =
-      positional (read_on words anything) rows pending idle met false word words o (λ rs q p. rest.free rs q true p) h at
+      positional (parse_on words anything) rows pending idle met false word words o (λ rs q p. rest.free rs q true p) h at
       (plain_turn (held rows pending) met word k) (plain_walk (held rows pending) met word k)
 
 -- ---- one word, where an option waits for its value
@@ -176,7 +176,7 @@ module _ (word : Text) (words : List Bytes) (rest : Says words) (p : Part) (rows
   wants = state (wanting rows p) (option (id_of p)) met false
 
   waits_kind : (k : Kind) → IsKind word k → (seen : Seen) → Shows rows seen → Placed met (Some seen)
-      → Agrees wants (word ∷ words) (by_kind (value_for p) k word seen (read_on words) (all_positional words))
+      → Agrees wants (word ∷ words) (parse_value k p word seen (parse_on words))
   waits_kind dashes k seen shows at =
       go_on wants (state (wanting rows p) (option (id_of p)) met true) word words None (dashes_walk (wanting rows p) (option (id_of p)) met word refl k)
       (dashes_turn (wanting rows p) (option (id_of p)) met word refl k)
@@ -187,7 +187,7 @@ module _ (word : Text) (words : List Bytes) (rest : Says words) (p : Part) (rows
   waits_kind hyphened k seen shows at = stop_here wants word words (hyphened_turn rows (Some (id_of p, [])) (option (id_of p)) met word refl k)
   waits_kind plain k seen shows at =
       let h = held_once p rows word seen t shows in
-      go_on wants (state (held rows (Some (id_of p, word ∷ []))) idle met false) word words (option_and_then (read_on words anything) (put p word seen))
+      go_on wants (state (held rows (Some (id_of p, word ∷ []))) idle met false) word words (option_and_then (parse_on words anything) (put p word seen))
       (value_walk p rows met word t k) (value_turn p rows met word t k)
       (rest.free rows (Some (id_of p, word ∷ [])) met (put p word seen) h (placed_other p met word seen t at))
 
@@ -195,7 +195,7 @@ module _ (word : Text) (words : List Bytes) (rest : Says words) (p : Part) (rows
 
 free_here : (word : Text) (words : List Bytes) (rest : Says words) → IsKind word (kind_of word) → (rows : List Row) (pending : Pending) (met : Bool) (o : Option Seen)
     → Holds (held rows pending) o → Placed met o
-    → Agrees (state (held rows pending) idle met false) (word ∷ words) (option_and_then (λ seen. read_on (word ∷ words) anything seen) o)
+    → Agrees (state (held rows pending) idle met false) (word ∷ words) (option_and_then (λ seen. parse_on (word ∷ words) anything seen) o)
 free_here word words rest k rows pending met o h at = free_kind word words rest rows pending met (kind_of word) k o h at
 
 trails_here : (word : Text) (words : List Bytes) (rest : Says words) (rows : List Row) (pending : Pending) (waiting : Waiting) (met : Bool) (o : Option Seen)

@@ -1,16 +1,13 @@
 -- One word of the walk: where the walk stands behind it, and its fault.
-use Rattle.std.proofs.Common.{◌≡◌, ◌∙◌, ◌&&◌, ◌||◌, ℕ, Bool, cond, true, false, refl, sym, ap, ap₂, subst, codes, List, [], ◌∷◌, ◌++◌, Option, Some, None, is_some}
-use Rattle.std.specs.Prelude.{⊤, option_map, option_and_then, slice_get}
+use Rattle.std.proofs.Common.{◌≡◌, ◌∙◌, ◌&&◌, ℕ, Bool, cond, true, false, refl, sym, ap, subst, List, [], ◌∷◌, Option, Some, None, is_some}
+use Rattle.std.specs.Prelude.{⊤}
 use Rattle.std.specs.List.{fold}
-use Rattle.std.specs.Str.{bytes_eq, chars}
-use Rattle.clap.specs.Lexer.{long_of, short_of}
-use Rattle.clap.specs.Walk.{Held, Row, Rule, Step, Text, Waiting, idle, option, value, Walk, after_flag, after_step, arg_by_long, is_pending, long_met, settled, subcommand_met, used, walked, word_met}
+use Rattle.clap.specs.Walk.{Held, Row, Rule, Step, Text, Waiting, idle, option, value, Walk, after_flag, after_step, arg_by_long, is_pending, long_met, settled, subcommand_met, walked}
 use Rattle.clap.specs.Kinds.{Kinds, or_else}
 use Rattle.clap.specs.Faults.{flags_fault, long_fault, settle_fault, step_fault, turn_fault, use_fault, walk_fault}
-use Rattle.clap.specs.declared.error.kind.ErrorKind.TheVariants.{InvalidValue, UnknownArgument}
-use Rattle.cd_command.specs.CommandLine.{Bytes, Kind, dashes, named, hyphened, plain, Name, for_workers, for_size, for_record, for_nothing, name_of, Part, action, workers, size, with_record, Seen, put, put_first}
-use Rattle.cd_command.proofs.WordLemmas.{HasFlags, IsKind, is_dashes}
-use Rattle.cd_command.proofs.RowLemmas.{Agreed, IsFault, Shows, fault_left, fault_right, id_of, named_rule, or_none, past, rule, rule_named, rules, top, used_once, values_of}
+use Rattle.cd_command.specs.CommandLine.{named, hyphened, plain, Name, for_workers, for_size, for_record, for_nothing, name_of, Part, action, workers, size, with_record, Seen, put}
+use Rattle.cd_command.proofs.WordLemmas.{IsKind, is_dashes}
+use Rattle.cd_command.proofs.RowLemmas.{Agreed, IsFault, Shows, fault_left, id_of, named_rule, rule, rule_named, rules, top, used_once}
 
 -- what is held between two words
 abbrev pub held : List Row → Option (Text × List Text) → Held

@@ -1,12 +1,11 @@
 -- What the parser reads of a word, by what the word is; and what it makes of a name.
-use Rattle.std.proofs.Common.{◌≡◌, ◌∙◌, ◌==◌, ◌&&◌, cond, ℕ, Bool, true, false, refl, sym, ap, subst, codes, List, [], ◌∷◌, Option, Some, None, true≢false, eqb-true}
+use Rattle.std.proofs.Common.{◌≡◌, ◌==◌, ◌&&◌, cond, ℕ, Bool, true, false, refl, sym, ap, subst, List, [], ◌∷◌, Some, None, true≢false, eqb-true}
 use Rattle.std.specs.Prelude.{IsUtf8, encode_utf8_all, slice_get, option_and_then}
 use Rattle.std.specs.Char.{encode_utf8}
 use Rattle.std.specs.Str.{bytes_eq, chars}
 use Rattle.std.proofs.lemmas.Str.{IsUtf8-past_char, encodes-chars}
 use Rattle.clap.specs.Lexer.{long_of, short_of, long_of_rest, short_of_rest, strip_byte}
-use Rattle.clap.specs.Walk.{Rule, Text}
-use Rattle.cd_command.specs.CommandLine.{Bytes, Kind, dashes, named, hyphened, plain, kind_of, Name, for_workers, for_size, for_record, for_nothing, name_of}
+use Rattle.cd_command.specs.CommandLine.{Bytes, Kind, dashes, named, hyphened, plain, kind_of}
 
 pub by_test : {P : Type 0} (b : Bool) → (b ≡ true → P) → (b ≡ false → P) → P
 by_test true yes_case no_case = yes_case refl
@@ -56,8 +55,7 @@ no_hyphen b bytes e = (
 -- a word that begins with one hyphen alone
 one_hyphen : (c : ℕ) (bytes : Bytes) → IsUtf8 (c ∷ bytes) → (c == 45) ≡ false → IsKind (45 ∷ c ∷ bytes) hyphened
 one_hyphen c bytes u f =
-    let first = first_character c bytes u in
-    (
+    let first = first_character c bytes u in (
       ap (λ t. t && bytes_eq bytes []) f,
       (
         ap (λ t. option_and_then long_of_rest (cond t (Some bytes) None)) f,

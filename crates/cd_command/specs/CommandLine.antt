@@ -36,6 +36,10 @@ abbrev pub kind_of : Bytes → Kind
 kind_of [] = plain
 kind_of (b ∷ bytes) = if b == 45 then behind_one bytes else plain
 
+abbrev pub begins_with_hyphen : Bytes → Bool
+begins_with_hyphen [] = false
+begins_with_hyphen (b ∷ bytes) = b == 45
+
 -- what a name stands for; a name is not shortened
 pub data Name : Type 0 where
   for_workers : Name
@@ -99,15 +103,22 @@ by_name for_record None seen next = option_and_then (next anything) (put with_re
 by_name for_record (Some value) seen next = None
 by_name for_nothing value seen next = None
 
--- one word, by what it is, where `next` is what the words behind it give, and `ended` what they give as positional words. A
--- value does not begin with a hyphen; `-` alone is taken for one here, and is no number below
-abbrev pub by_kind : Wanted → Kind → Bytes → Seen → (Wanted → Seen → Option Seen) → (Seen → Option Seen) → Option Seen
-by_kind anything dashes word seen next ended = ended seen
-by_kind anything (named name value) word seen next ended = by_name (name_of name) value seen next
-by_kind anything hyphened word seen next ended = None
-by_kind anything plain word seen next ended = option_and_then (next anything) (put action word seen)
-by_kind (value_for part) plain word seen next ended = option_and_then (next anything) (put part word seen)
-by_kind (value_for part) _ word seen next ended = None
+-- a word where anything may come, by what it is; `next` is what the words behind it give, and `ended` what they give as
+-- positional words
+abbrev pub by_kind : Kind → Bytes → Seen → (Wanted → Seen → Option Seen) → (Seen → Option Seen) → Option Seen
+by_kind dashes word seen next ended = ended seen
+by_kind (named name value) word seen next ended = by_name (name_of name) value seen next
+by_kind hyphened word seen next ended = None
+by_kind plain word seen next ended = option_and_then (next anything) (put action word seen)
+
+-- the value of an option: it does not begin with a hyphen
+abbrev pub by_value : Bool → Part → Bytes → Seen → (Wanted → Seen → Option Seen) → Option Seen
+by_value true part word seen next = None
+by_value false part word seen next = option_and_then (next anything) (put part word seen)
+
+abbrev pub one_word : Wanted → Bytes → Seen → (Wanted → Seen → Option Seen) → (Seen → Option Seen) → Option Seen
+one_word anything word seen next ended = by_kind (kind_of word) word seen next ended
+one_word (value_for part) word seen next ended = by_value (begins_with_hyphen word) part word seen next
 
 -- no value may be missing at the end
 abbrev pub at_end : Wanted → Seen → Option Seen
@@ -117,7 +128,7 @@ at_end (value_for part) seen = None
 -- what the words give, behind what was seen
 abbrev pub read_on : List Bytes → Wanted → Seen → Option Seen
 read_on [] wanted seen = at_end wanted seen
-read_on (word ∷ words) wanted seen = by_kind wanted (kind_of word) word seen (read_on words) (all_positional words)
+read_on (word ∷ words) wanted seen = one_word wanted word seen (read_on words) (all_positional words)
 
 -- what a whole command line gives: its one positional word, the values of the options, and whether the flag was given
 pub record Given : Type 0 where

@@ -2,9 +2,9 @@ ghost use Rattle.std.specs.Prelude.{◌≡◌, IfOk, option_map};
 ghost use Rattle.clap.specs.Matches.{found_of};
 ghost use Rattle.clap.specs.Simple.{app_of};
 ghost use Rattle.clap.specs.Walk.{texts};
-ghost use Rattle.cd_command.specs.CommandLine.{Seen, given, given_in};
+ghost use Rattle.cd_command.specs.CommandLine.{Seen, given};
 ghost use Rattle.cd_command.specs.Line.{line};
-ghost use Rattle.cd_command.specs.Parses.{given_by, AreTexts, Finds};
+ghost use Rattle.cd_command.specs.Parses.{given_by, parsed_in, AreTexts, Finds};
 
 use crate::Words;
 use cd_base::NoMemory;
@@ -33,9 +33,12 @@ pub(crate) fn texts_of<'a>(alloc: Global, words: &'a Words) -> Result<Vec<&'a st
 }
 
 /// What the words give, or none where they give no command.
-pub(crate) fn found<'a>(alloc: Global, words: &'a [&'a str]) -> Result<Option<Entries<'a>>, NoMemory>
+pub(crate) fn found<'a>(
+    alloc: Global,
+    words: &'a [&'a str],
+) -> Result<Option<Entries<'a>>, NoMemory>
     requires { AreTexts (texts words.now) }
-    ensures { IfOk result (λ found. option_map given_by found ≡ given_in (texts words.now)) }
+    ensures { IfOk result (λ found. option_map given_by found ≡ parsed_in (texts words.now)) }
 {
     match line(alloc)?.try_get_matches_from(words) {
         Ok(matches) => Ok(entries_of(&matches)),
@@ -62,9 +65,7 @@ fn line<'a>(alloc: Global) -> Result<clap::Command<'a>, AllocError>
     let workers = Arg::new(alloc, "workers")
         .long("workers")
         .action(ArgAction::Set);
-    let size = Arg::new(alloc, "size")
-        .long("size")
-        .action(ArgAction::Set);
+    let size = Arg::new(alloc, "size").long("size").action(ArgAction::Set);
     let with_record = Arg::new(alloc, "record")
         .long("record")
         .action(ArgAction::SetTrue);
