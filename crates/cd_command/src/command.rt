@@ -10,19 +10,20 @@ use std::alloc::Global;
 /// What a command line asks for.
 #[derive(Debug, Clone, Copy, PartialEq, Eq)]
 pub enum Command {
-    /// Whether a document is legal.
-    Check,
     /// The canonical text of a document.
+    Check,
+    /// What the one-thread reading of a document comes to.
     Read,
     /// A document of the first version as one of the second.
     Lift,
-    /// A run by so many workers, and whether its record is written.
+    /// A run by 1 to 64 workers, and whether its record is written.
     Run { workers: u32, with_record: bool },
-    /// A document of this size.
+    /// The document of the hierarchical product of this size, 1 to 14.
     Make { size: u32 },
 }
 
-/// The command that words give, or none. It takes memory for a list of the words and for the parse.
+/// The command that words give, or none. It takes memory for a list of the words and for the parse, and fails only where
+/// this is wanting.
 pub fn command_of(alloc: Global, words: &Words) -> Result<Option<Command>, NoMemory>
     ensures exact { IfOk result (λ command. command ≡ command_in words.now) }
     ensures range { IfOk result (λ command. IsWithin command) }

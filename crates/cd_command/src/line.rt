@@ -21,7 +21,7 @@ pub(crate) struct Entries<'a> {
     pub(crate) with_record: bool,
 }
 
-/// The words as texts.
+/// The words as texts. It takes memory for the list, and not for the texts.
 pub(crate) fn texts_of<'a>(alloc: Global, words: &'a Words) -> Result<Vec<&'a str>, NoMemory>
     ensures { IfOk result (λ list. (texts list.items ≡ words.now) × AreTexts words.now) }
 {
@@ -32,7 +32,7 @@ pub(crate) fn texts_of<'a>(alloc: Global, words: &'a Words) -> Result<Vec<&'a st
     Ok(texts)
 }
 
-/// What the words give, or none where they give no command.
+/// What the parser makes of the words: none where they are no line of it.
 pub(crate) fn found<'a>(
     alloc: Global,
     words: &'a [&'a str],
@@ -47,6 +47,7 @@ pub(crate) fn found<'a>(
     }
 }
 
+/// What a parse found.
 fn entries_of<'a>(matches: &ArgMatches<'a>) -> Option<Entries<'a>>
     ensures { (seen : Seen) → Finds (found_of matches.now) seen → option_map given_by result ≡ given seen }
 {

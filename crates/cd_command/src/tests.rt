@@ -1,3 +1,5 @@
+ghost use Rattle.std.specs.Prelude.{◌≤◌};
+
 use crate::{Command, Words, command_of};
 use cd_base::{NoMemory, Text};
 use std::alloc::Global;
@@ -168,5 +170,22 @@ fn each_line_gives_its_command(rt: HostRuntime) -> Result<(), Fail> {
 fn no_word_gives_no_command(rt: HostRuntime) -> Result<(), Fail> {
     let alloc = rt.alloc();
     assert_eq!(rt; command_of(alloc, &Words::new(alloc))?, None);
+    Ok(())
+}
+
+/// How far a size is from the ends of its range.
+fn distances(size: u32) -> (u32, u32)
+    requires { (1 ≤ size) × (size ≤ 14) }
+{
+    (size - 1, 14 - size)
+}
+
+#[test]
+fn a_caller_knows_the_range_of_a_size(rt: HostRuntime) -> Result<(), Fail> {
+    let alloc = rt.alloc();
+    let words = words_of(alloc, "make --size 5")?;
+    if let Some(Command::Make { size }) = command_of(alloc, &words)? {
+        assert_eq!(rt; distances(size), (4, 9));
+    }
     Ok(())
 }
