@@ -1,0 +1,194 @@
+ghost use Rattle.std.specs.Prelude.{◌≤◌};
+
+use crate::{Command, Words, command_of};
+use cd_base::{NoMemory, Text};
+use std::alloc::Global;
+use std::test::Fail;
+
+fn run(workers: u32, with_record: bool) -> Option<Command> {
+    Some(Command::Run {
+        workers,
+        with_record,
+    })
+}
+
+fn make(size: u32) -> Option<Command> {
+    Some(Command::Make { size })
+}
+
+/// The words of a line, with one space between each two of them.
+fn words_of(alloc: Global, line: &str) -> Result<Words, NoMemory> {
+    let mut words = Words::new(alloc);
+    for word in line.split(' ') {
+        words.push(Text::of(alloc, word)?)?;
+    }
+    Ok(words)
+}
+
+/// Lines with the commands that they give.
+fn commands() -> [(&'static str, Option<Command>); 35] {
+    [
+        ("check", Some(Command::Check)),
+        ("read", Some(Command::Read)),
+        ("lift", Some(Command::Lift)),
+        ("run", run(2, false)),
+        ("make", make(4)),
+        ("run --workers 8", run(8, false)),
+        ("--workers 8 run", run(8, false)),
+        ("run --workers=8", run(8, false)),
+        ("--workers=8 run", run(8, false)),
+        ("run --workers 008", run(8, false)),
+        ("run --workers 1", run(1, false)),
+        ("run --workers 001", run(1, false)),
+        ("run --workers 64", run(64, false)),
+        ("run --workers=064", run(64, false)),
+        ("run --workers=2", run(2, false)),
+        ("run --record", run(2, true)),
+        ("--record run", run(2, true)),
+        ("--record --workers 3 run", run(3, true)),
+        ("--workers 3 --record run", run(3, true)),
+        ("--workers 3 run --record", run(3, true)),
+        ("run --record --workers=63", run(63, true)),
+        ("make --size 1", make(1)),
+        ("make --size 14", make(14)),
+        ("make --size=014", make(14)),
+        ("make --size=4", make(4)),
+        ("--size 9 make", make(9)),
+        ("--size=9 make", make(9)),
+        ("-- check", Some(Command::Check)),
+        ("-- run", run(2, false)),
+        ("run --", run(2, false)),
+        ("--record -- run", run(2, true)),
+        ("--workers 5 -- run", run(5, false)),
+        ("--workers=5 run --", run(5, false)),
+        ("--size 5 -- make", make(5)),
+        ("-- lift", Some(Command::Lift)),
+    ]
+}
+
+/// Lines that give no command.
+static NO_COMMANDS: [&str; 79] = [
+    "",
+    " ",
+    "-",
+    "--",
+    "- run",
+    "run -",
+    "run ",
+    " run",
+    "run run",
+    "run check",
+    "check check",
+    "walk",
+    "Run",
+    "runs",
+    "ru",
+    "rün",
+    "-- -- run",
+    "-- run --",
+    "-- --",
+    "-- --record run",
+    "run -- --record",
+    "run -- --workers=2",
+    "run -- -",
+    "--help",
+    "--help run",
+    "-h",
+    "run -h",
+    "--version",
+    "-V",
+    "help",
+    "-r run",
+    "-é run",
+    "--é run",
+    "-abc",
+    "---record run",
+    "--= run",
+    "--=3 run",
+    "--work 3 run",
+    "--worker=3 run",
+    "--rec run",
+    "--Record run",
+    "--recorder run",
+    "--record=1 run",
+    "--record= run",
+    "--record --record run",
+    "--workers 2 --workers 2 run",
+    "--workers=2 run --workers=2",
+    "--workers 2 run --workers=2",
+    "--size 2 make --size 2",
+    "--workers",
+    "run --workers",
+    "run --workers -",
+    "--workers - run",
+    "--workers -2 run",
+    "--workers --record run",
+    "--workers -- run",
+    "--workers run",
+    "run --workers=",
+    "run --workers=-",
+    "run --workers 0",
+    "run --workers 000",
+    "run --workers 65",
+    "run --workers=999",
+    "run --workers 0008",
+    "run --workers +2",
+    "run --workers=2x",
+    "run --workers=1=2",
+    "run --workers=0x2",
+    "run --workers ²",
+    "make --size 0",
+    "make --size 15",
+    "make --size=0014",
+    "make --size",
+    "check --record",
+    "read --workers 2",
+    "make --record",
+    "make --workers=2",
+    "run --size 4",
+    "lift --size=4",
+];
+
+#[test]
+fn each_line_gives_its_command(rt: HostRuntime) -> Result<(), Fail> {
+    let alloc = rt.alloc();
+    for (line, command) in commands() {
+        let words = words_of(alloc, line)?;
+        assert_eq!(rt; command_of(alloc, &words)?, command, "at {line}");
+    }
+    Ok(())
+}
+
+#[test]
+fn other_lines_give_none(rt: HostRuntime) -> Result<(), Fail> {
+    let alloc = rt.alloc();
+    for line in NO_COMMANDS {
+        let words = words_of(alloc, line)?;
+        assert_eq!(rt; command_of(alloc, &words)?, None, "at {line}");
+    }
+    Ok(())
+}
+
+#[test]
+fn no_word_gives_no_command(rt: HostRuntime) -> Result<(), Fail> {
+    let alloc = rt.alloc();
+    assert_eq!(rt; command_of(alloc, &Words::new(alloc))?, None);
+    Ok(())
+}
+
+/// How far a size is from the ends of its range.
+fn distances(size: u32) -> (u32, u32)
+    requires { (1 ≤ size) × (size ≤ 14) }
+{
+    (size - 1, 14 - size)
+}
+
+#[test]
+fn a_caller_knows_the_range_of_a_size(rt: HostRuntime) -> Result<(), Fail> {
+    let alloc = rt.alloc();
+    let words = words_of(alloc, "make --size 5")?;
+    if let Some(Command::Make { size }) = command_of(alloc, &words)? {
+        assert_eq!(rt; distances(size), (4, 9));
+    }
+    Ok(())
+}
