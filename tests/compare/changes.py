@@ -16,6 +16,8 @@ BYTES = b' \t\r\n#abcz019_:[].,*+-/AZ\x00\x0b\x0c\x7f\x80\xff'
 LARGE = [str(TOP), str(TOP + 1), '0' * 30 + str(TOP), str(TOP - 1), '9' * 20, '9' * 40, f'{2 ** 32}*{2 ** 32}', f'{TOP - 1}+1', f'0*{TOP}',
          '1-2', '0-1', '1-2+5', f'{2 ** 32}*{2 ** 31}', f'0*{2 ** 32}*{2 ** 32}+1', '0*1-1', f'{TOP - 1}*1+0']
 NUMBER = re.compile('[0-9]+')
+# A range whose bounds have a variable.
+SLICE = re.compile(r'\[[^\]]*[a-z][^\]]*\.\.')
 
 
 def numbers_of(lines):
@@ -194,6 +196,22 @@ def strike_wrong(rng, lines):
                               rng.choice([words[1] for words in lines if words[:1] == ['region'] and len(words) > 1] or ['x']) + '[0]'}[part]
 
 
+@change()
+def strike_outside(rng, lines):
+    """A strike at a word of another region, which may be one that no domain knows."""
+    places = of_word(lines, 'strike')
+    names = [lines[k][1] for k in of_word(lines, 'region') if len(lines[k]) > 1]
+    if places and names:
+        k = rng.choice(places)
+        name = rng.choice(names)
+        if rng.random() < 0.5:
+            name = 'unseen'
+            lines.insert(of_word(lines, 'region')[0], ['region', name, '3', 'const', '1'])
+            k += 1
+        if len(lines[k]) == 7:
+            lines[k][5] = f'{name}[{rng.choice(["0", "1", "2"])}]'
+
+
 @change(2)
 def kinds_wrong(rng, lines):
     places = of_word(lines, 'domain')
@@ -206,9 +224,10 @@ def kinds_wrong(rng, lines):
 @change(2)
 def overlap(rng, lines):
     """Slices that are wider than they are apart."""
-    k_all = [k for k, words in enumerate(lines) if words and words[0] in ('preserve', 'fill', 'copy', 'scan') and '..' in ' '.join(words)]
-    if k_all:
-        k = rng.choice(k_all)
+    wide = [k for k, words in enumerate(lines) if words and words[0] in ('preserve', 'fill', 'copy', 'scan') and '..' in ' '.join(words)]
+    turned = [k for k in wide if SLICE.search(' '.join(lines[k][1:]))]
+    if wide:
+        k = rng.choice(turned or wide)
         for part, word in enumerate(lines[k]):
             if '..' in word:
                 lines[k][part] = word.replace(']', '+1]')
@@ -264,15 +283,15 @@ def made(seed, number):
 
 AIMS = [('accepted', None), ('E2', None), ('E3', other_region), ('E4', other_region), ('E5', taken), ('E6', other_shape), ('E7', large_number),
         ('E8', long_name), ('E8', other_number), ('E9', overlap), ('E9', same_member), ('E10', drop_preserve), ('E11', other_how),
-        ('E12', early_write), ('E13', strike_wrong), ('E14', strike_wrong), ('E15', strike_wrong), ('E16', strike_wrong), ('E16', kinds_wrong)]
+        ('E12', early_write), ('E13', strike_wrong), ('E14', strike_wrong), ('E15', strike_outside), ('E16', strike_wrong), ('E16', kinds_wrong)]
 
 
 def aimed(seed, number, answer):
-    """A document with the wanted answer, the first of up to 300 tries that has it, else the last."""
+    """A document with the wanted answer, the first of up to 60 tries that has it, else the last."""
     rng = random.Random(f'aimed {seed} {number}')
     aim, function = AIMS[number % len(AIMS)]
     whole = b''
-    for _ in range(300):
+    for _ in range(60):
         lines = Maker(rng).make()
         if function is None:
             whole = text(rng, lines) if aim == 'accepted' else changed(rng, lines)

@@ -359,10 +359,10 @@ def two_limits():
 
 
 def large():
-    """The few documents that take long."""
+    """Documents of many lines, domains, words or blocks, some of which take long."""
     y = 'region y 4 const 0\n'
     py = 'preserve y copy\n'
-    out = {'generated_14': generated(14)}
+    out = {}
     for k in (65536, 65537, 70000):
         out[f'lines_turns_{k}'] = f'for a in 0..{k}\nend\n' + one()
         out[f'lines_alone_{k}'] = f'cd 1\nfor a in 0..{k}\nend\n'
