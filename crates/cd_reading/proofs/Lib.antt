@@ -4,3 +4,4 @@ pub mod Quiet
 pub mod Rises
 pub mod Walking
 pub mod Following
+pub mod Whole

@@ -1,5 +1,5 @@
 // The faults of a script by the domain and the begin at which they strike.
-ghost use Rattle.std.specs.Prelude.{◌≡◌, ◌≢◌, ◌↔◌, ◌<◌, ◌≤◌, ◌^◌, ℕ, List, All, IsTrue, filter, length, IfOk};
+ghost use Rattle.std.specs.Prelude.{◌≡◌, ◌≢◌, ◌↔◌, ◌<◌, ◌≤◌, ◌^◌, ℕ, List, All, IsTrue, filter, length, IfOk, OnOk};
 ghost use Rattle.cd_tree.specs.declared.document.Fault.{Fault};
 ghost use Rattle.cd_reading.specs.Strikes.{strikes_in, AreStruck, AreAllStruck};
 ghost use Rattle.cd_reading.specs.declared.strikes.Struck.{Struck};
@@ -22,11 +22,13 @@ pub(crate) fn all_struck(
     count: u32,
 ) -> Result<Vec<Items<Struck>>, NoMemory>
     ensures size { IfOk result (λ domains. length domains.items ≡ count) }
+    ensures few { OnOk result (length script.now < 2 ^ 32) }
     ensures struck { IfOk result (λ domains. AreAllStruck script.now domains.items) }
 {
+    let faults = script.items();
     let mut domains = Vec::new(alloc);
     for id in 0..count {
-        domains.push(struck_of(alloc, script.items(), NodeId(id))?)?;
+        domains.push(struck_of(alloc, faults, NodeId(id))?)?;
     }
     Ok(domains)
 }
