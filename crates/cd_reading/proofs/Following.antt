@@ -1,9 +1,8 @@
 -- What each step of the walk needs and gives, as its answers cite it.
-use Rattle.std.proofs.Common.{◌≡◌, ℕ, zero, suc, ◌+◌, ◌-◌, ◌<◌, ◌≤◌, ◌^◌, ◌==◌, Bool, true, false, cond, nat_lt, bit_or, bit_and, List, [], ◌∷◌, Option, None, Some, length, drop, filter, get_or, set, slice_get, slice_index, refl, sym, ap, ◌∙◌, subst, arith}
+use Rattle.std.proofs.Common.{◌≡◌, ℕ, zero, suc, ◌+◌, ◌-◌, ◌<◌, ◌≤◌, ◌^◌, Bool, true, false, cond, nat_lt, List, [], ◌∷◌, Option, Some, length, drop, get_or, set, slice_get, slice_index, refl, sym, ap, ◌∙◌, subst, arith}
 use Rattle.std.proofs.lemmas.Bool.{eq-eqb, ltb-true}
 use Rattle.std.proofs.lemmas.List.{at_drop_more, drop_all}
 use Rattle.std.proofs.lemmas.Nat.{or_lt, pow_below}
-use Rattle.std.proofs.lemmas.Option.{slice_get_within}
 use Rattle.cd_tree.specs.KindSets.{no_kinds, only_kind, halting, halting_from}
 use Rattle.cd_tree.specs.declared.domain.NodeId.{NodeId}
 use Rattle.cd_tree.specs.declared.domain.Domain.{Domain}
@@ -11,7 +10,7 @@ use Rattle.cd_tree.specs.declared.domain.Item.{Item}
 use Rattle.cd_tree.specs.declared.domain.Item.TheVariants.{Run, Group}
 use Rattle.cd_tree.specs.declared.kinds.KindName.{KindName}
 use Rattle.cd_tree.specs.Outlines.{Outline, IsTree, FitsItems, NamesChildren}
-use Rattle.cd_tree.specs.Domains.{Node, Body, node, members_by, body_by, node_of}
+use Rattle.cd_tree.specs.Domains.{Node, Body, members_by, body_by, node_of}
 use Rattle.cd_tree.specs.Laws.{NestedViewFollows}
 use Rattle.cd_tree.specs.Reading.{Case, Counts, counted, Told, TryEnd, NodeEnd, GroupEnd, Try, tries, read_node, read_points, read_members, read_try}
 use Rattle.cd_reading.specs.Steps.{quiet}

@@ -1,13 +1,12 @@
 -- Sets of kinds, bit by bit, and gathered from the front of a list.
-use Rattle.std.proofs.Common.{◌≡◌, ℕ, ◌+◌, ◌<◌, ◌≤◌, ◌^◌, ◌==◌, ◌&&◌, Bool, true, false, if◌then◌else◌, bit_or, bit_and, bit_xor, nat_lt, ◌%◌, ◌-◌, min, List, [], ◌∷◌, length, drop, get_or, filter, refl, sym, ap, ◌∙◌, arith, inl, inr, subst, not}
+use Rattle.std.proofs.Common.{◌≡◌, ℕ, ◌+◌, ◌<◌, ◌≤◌, ◌^◌, ◌==◌, ◌&&◌, Bool, true, false, if◌then◌else◌, bit_or, bit_and, nat_lt, ◌%◌, ◌-◌, min, List, ◌∷◌, length, drop, get_or, filter, refl, sym, ap, ◌∙◌, arith, inl, inr, subst, not}
 use Rattle.std.proofs.lemmas.Bool.{cases_eq, cases_lt, cases_Bool, eqb-true, ltb-false, eq-eqb, and_parts, and_cases}
 use Rattle.std.proofs.lemmas.Nat.Bits.{bit_at_or, bit_at_and, bit_at_xor, bit_at-zero, bit_at-lt, bit_at-pow_same, bit_at-pow_other, bit_at_above, same_from_bits}
 use Rattle.std.proofs.lemmas.List.{at_drop_more, drop_all}
 use Rattle.std.specs.Int.{bit_at}
 use Rattle.cd_tree.specs.declared.document.Fault.{Fault}
-use Rattle.cd_tree.specs.declared.kinds.Kind.{Kind}
 use Rattle.cd_tree.specs.declared.kinds.KindName.{KindName}
-use Rattle.cd_tree.specs.KindSets.{only_kind, has_kind, kinds_without, halting, halting_from, no_kinds}
+use Rattle.cd_tree.specs.KindSets.{only_kind, has_kind, kinds_without, halting, halting_from}
 use Rattle.cd_tree.specs.Scripts.{kinds_of}
 
 pub neq-eqb : (a b : ℕ) → (a ≡ b → ⊥) → (a == b) ≡ false

@@ -1,10 +1,9 @@
 -- The reading without its events: what follows a try, and that events change nothing of it.
-use Rattle.std.proofs.Common.{◌≡◌, ℕ, zero, suc, ◌+◌, ◌-◌, ◌<◌, ◌≤◌, Bool, true, false, refl, sym, ap, ◌∙◌, subst, arith}
-use Rattle.cd_tree.specs.KindSets.{no_kinds}
+use Rattle.std.proofs.Common.{◌≡◌, ℕ, zero, suc, ◌-◌, true, false, refl, sym, ap, ◌∙◌}
 use Rattle.cd_tree.specs.declared.domain.NodeId.{NodeId}
 use Rattle.cd_tree.specs.declared.domain.Domain.{Domain}
 use Rattle.cd_tree.specs.Domains.{Body, node}
-use Rattle.cd_tree.specs.Reading.{Case, Counts, Told, TryEnd, Passed, Failed, Broken, NodeEnd, Done, Escalated, ended, unless_failed, tries, read_node, read_points, read_try}
+use Rattle.cd_tree.specs.Reading.{Case, Counts, Told, TryEnd, Passed, Failed, Broken, NodeEnd, Done, Escalated, ended, unless_failed, tries, read_node, read_try}
 use Rattle.cd_reading.specs.Ends.{has_failed, last_end}
 use Rattle.cd_reading.specs.Steps.{quiet}
 

@@ -1,5 +1,5 @@
 -- No count falls: what each part of the reading does to the counts.
-use Rattle.std.proofs.Common.{◌≡◌, ℕ, zero, suc, ◌+◌, ◌-◌, ◌<◌, ◌≤◌, ◌==◌, Bool, true, false, cond, if◌then◌else◌, bit_or, bit_and, refl, sym, ap, ◌∙◌, subst, arith, le_refl}
+use Rattle.std.proofs.Common.{ℕ, zero, suc, ◌+◌, ◌-◌, ◌≤◌, ◌==◌, Bool, true, false, if◌then◌else◌, bit_or, bit_and, arith, le_refl}
 use Rattle.cd_tree.specs.KindSets.{no_kinds, kinds_without}
 use Rattle.cd_tree.specs.declared.domain.NodeId.{NodeId}
 use Rattle.cd_tree.specs.declared.domain.Domain.{Domain}
@@ -7,7 +7,7 @@ use Rattle.cd_tree.specs.declared.domain.Item.{Item}
 use Rattle.cd_tree.specs.declared.domain.Item.TheVariants.{Run, Group}
 use Rattle.cd_tree.specs.Scripts.{struck, kinds_of}
 use Rattle.cd_tree.specs.Domains.{Node, Body, Members, node, stop, run, group, no_more, member, members_by}
-use Rattle.cd_tree.specs.Reading.{Case, Counts, counted, Told, told, TryEnd, Passed, Failed, Broken, NodeEnd, GroupEnd, AllDone, SomeEscalated, Try, halted, unless_halted, arrived, detected, begun, group_ended, behind_group, with_end, with_member, ended, unless_failed, tries, read_node, read_points, read_members, read_try}
+use Rattle.cd_tree.specs.Reading.{Case, Counts, counted, Told, TryEnd, Passed, Failed, Broken, NodeEnd, GroupEnd, AllDone, SomeEscalated, Try, halted, unless_halted, arrived, detected, group_ended, behind_group, ended, unless_failed, tries, read_node, read_points, read_members, read_try}
 use Rattle.cd_reading.specs.Walk.{item_read, item_counts}
 
 -- no count is less than before

@@ -1,11 +1,11 @@
 -- The table of faults: the begins of a domain at which any strike, gathered from the front of a script.
-use Rattle.std.proofs.Common.{◌≡◌, ◌≢◌, ℕ, ◌+◌, ◌<◌, ◌≤◌, Bool, true, false, cond, ◌&&◌, ◌==◌, List, [], ◌∷◌, ◌++◌, Option, Some, All, length, take, drop, get_or, filter, slice_get, refl, sym, ap, ◌∙◌, subst, arith, append-nil, inl, inr, ◌⊎◌, zero, suc, length-append}
-use Rattle.std.proofs.lemmas.Bool.{cases_eq, cases_Bool, and_parts, eqb-true, eq-eqb}
+use Rattle.std.proofs.Common.{◌≡◌, ◌≢◌, ℕ, ◌+◌, ◌<◌, ◌≤◌, Bool, true, false, cond, ◌&&◌, ◌==◌, List, [], ◌∷◌, ◌++◌, Some, All, length, take, get_or, filter, slice_get, refl, sym, ap, ◌∙◌, subst, arith, append-nil, inl, inr, ◌⊎◌, zero, suc, length-append}
+use Rattle.std.proofs.lemmas.Bool.{cases_Bool, and_parts, eqb-true}
 use Rattle.std.proofs.lemmas.List.{take_all}
-use Rattle.std.proofs.lemmas.List.Elements.{filter_more, All-nil, All-cons, All-append}
+use Rattle.std.proofs.lemmas.List.Elements.{filter_more, All-nil, All-cons}
 use Rattle.cd_tree.specs.declared.domain.NodeId.{NodeId}
 use Rattle.cd_tree.specs.declared.document.Fault.{Fault}
-use Rattle.cd_tree.specs.Scripts.{strikes_at, struck}
+use Rattle.cd_tree.specs.Scripts.{struck}
 use Rattle.cd_reading.specs.declared.strikes.Struck.{Struck}
 use Rattle.cd_reading.specs.Strikes.{strikes_in, AreStruck, AreAllStruck}
 

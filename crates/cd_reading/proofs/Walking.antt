@@ -1,10 +1,10 @@
 -- The walk over a program's domains: items and members from the front of a list, and what is known of each domain.
-use Rattle.std.proofs.Common.{◌≡◌, ℕ, zero, suc, ◌+◌, ◌-◌, ◌<◌, ◌≤◌, ◌^◌, ◌==◌, Bool, true, false, cond, bit_or, bit_and, List, [], ◌∷◌, Option, None, Some, IsSomeAnd, unwrap_or, length, drop, filter, get_or, set, slice_get, slice_index, refl, sym, ap, ◌∙◌, subst, zero-add, arith, add-one, inl, inr}
+use Rattle.std.proofs.Common.{◌≡◌, ℕ, zero, suc, ◌+◌, ◌<◌, ◌≤◌, ◌^◌, ◌==◌, Bool, true, false, cond, bit_or, bit_and, List, [], ◌∷◌, Option, None, Some, IsSomeAnd, unwrap_or, length, drop, filter, get_or, set, slice_get, slice_index, refl, sym, ap, ◌∙◌, subst, zero-add, arith, add-one, inl, inr}
 use Rattle.std.proofs.Math.Path.{fun_ext}
 use Rattle.std.proofs.lemmas.Bool.{cases_eq, eq-eqb}
 use Rattle.std.proofs.lemmas.Option.{slice_get_within}
-use Rattle.std.proofs.lemmas.List.{at_drop_more, drop_all, get_or-set_same, get_or-set_other}
-use Rattle.cd_tree.specs.KindSets.{no_kinds, halting}
+use Rattle.std.proofs.lemmas.List.{at_drop_more, get_or-set_same, get_or-set_other}
+use Rattle.cd_tree.specs.KindSets.{no_kinds}
 use Rattle.cd_tree.specs.declared.domain.NodeId.{NodeId}
 use Rattle.cd_tree.specs.declared.domain.Domain.{Domain}
 use Rattle.cd_tree.specs.declared.domain.Item.{Item}
@@ -12,23 +12,21 @@ use Rattle.cd_tree.specs.declared.domain.Item.TheVariants.{Run, Group}
 use Rattle.cd_tree.specs.declared.document.Fault.{Fault}
 use Rattle.cd_tree.specs.declared.kinds.KindName.{KindName}
 use Rattle.cd_tree.specs.Scripts.{struck, kinds_of}
-use Rattle.cd_tree.specs.Outlines.{Outline, IsTree, FitsDomain, EachFits, FitsItems, NamesChildren}
-use Rattle.cd_tree.specs.Domains.{Node, Body, Members, node, stop, run, group, no_more, member, members_by, body_by, put_first, node_of, nodes_from, root_of, first_of_all}
+use Rattle.cd_tree.specs.Outlines.{Outline, IsTree, FitsDomain, EachFits, NamesChildren}
+use Rattle.cd_tree.specs.Domains.{Node, Members, node, members_by, body_by, put_first, node_of, nodes_from, root_of, first_of_all}
 use Rattle.cd_tree.specs.Laws.{NestedViewFollows}
 use Rattle.cd_tree.specs.Reading.{Case, Counts, counted, Told, told, silence, TryEnd, NodeEnd, GroupEnd, ends_joined, Try, unless_halted, arrived, detected, with_member, read_node, read_points, read_members, read_try}
 use Rattle.cd_tree.specs.Reading as reading
 use Rattle.cd_reading.specs.declared.ends.Tried.{Tried}
-use Rattle.cd_reading.specs.declared.ends.Ended.{Ended}
-use Rattle.cd_reading.specs.declared.ends.Grouped.{Grouped}
 use Rattle.cd_reading.specs.declared.steps.Step.{Step}
 use Rattle.cd_reading.specs.declared.steps.Step.TheVariants.{On, Over}
-use Rattle.cd_reading.specs.Ends.{try_end, node_end, group_end, groups_joined, alone}
+use Rattle.cd_reading.specs.Ends.{try_end, groups_joined, alone}
 use Rattle.cd_reading.specs.Steps.{quiet, went}
 use Rattle.cd_reading.specs.Strikes.{strikes_in}
 use Rattle.cd_reading.specs.Walk.{the_node, listed, AreCounts, item_read, item_counts}
 use Rattle.cd_reading.proofs.KindLemmas.{or_assoc, or_none, none_or, neq-eqb}
 use Rattle.cd_reading.proofs.StruckLemmas.{struck_twice}
-use Rattle.cd_reading.proofs.Rises.{Rises, rises_same, points_rise, members_rise, try_rises, item_rises}
+use Rattle.cd_reading.proofs.Rises.{Rises, points_rise, members_rise, item_rises}
 
 -- ---- each domain of a program
 
@@ -89,6 +87,7 @@ count_set counts n v within is =
     chosen : (b : Bool) (x y : ℕ) → b ≡ true → cond b x y ≡ x
     chosen true x y e = refl
     chosen false x y e = absurd (cc)
+
     other_one : (b : Bool) (x y : ℕ) → b ≡ false → cond b x y ≡ y
     other_one true x y e = absurd (cc)
     other_one false x y e = refl

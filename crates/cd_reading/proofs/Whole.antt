@@ -1,10 +1,9 @@
 -- The reading of a whole program: counts in a list from no begin to the last, and the path of the cause.
-use Rattle.std.proofs.Common.{◌≡◌, ℕ, zero, suc, ◌+◌, ◌-◌, ◌<◌, ◌≤◌, ◌^◌, List, [], ◌∷◌, ◌++◌, All, Option, length, map, take, drop, get_or, slice_index, refl, sym, ap, ◌∙◌, subst, arith, inl, inr, add-one, zero-add, length-append}
+use Rattle.std.proofs.Common.{◌≡◌, ℕ, zero, suc, ◌+◌, ◌<◌, ◌≤◌, ◌^◌, List, ◌∷◌, ◌++◌, All, Option, length, map, take, drop, get_or, slice_index, sym, ap, ◌∙◌, subst, arith, inl, inr, add-one, zero-add}
 use Rattle.std.proofs.Math.Path.{fun_ext}
 use Rattle.std.proofs.lemmas.Bool.{cases_lt}
 use Rattle.std.proofs.lemmas.List.{at_drop_more, drop_all, take_all, take-append-le, get_or_default, get_or_past}
 use Rattle.cd_tree.specs.declared.domain.NodeId.{NodeId}
-use Rattle.cd_tree.specs.declared.domain.Domain.{Domain}
 use Rattle.cd_tree.specs.declared.document.Fault.{Fault}
 use Rattle.cd_tree.specs.declared.event.Cause.{Cause}
 use Rattle.cd_tree.specs.Outlines.{Outline, IsTree}

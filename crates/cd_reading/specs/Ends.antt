@@ -1,5 +1,5 @@
 -- The ends of tries, domains and groups that the code has, as the reading has them.
-use Rattle.std.specs.Prelude.{ℕ, zero, ◌^◌, ◌<◌, Bool, true, false, bit_or}
+use Rattle.std.specs.Prelude.{ℕ, ◌^◌, ◌<◌, Bool, true, false, bit_or}
 use Rattle.cd_tree.specs.KindSets.{no_kinds}
 use Rattle.cd_tree.specs.Reading as reading
 use Rattle.cd_tree.specs.Reading.{Blame, blame, TryEnd, NodeEnd, GroupEnd}

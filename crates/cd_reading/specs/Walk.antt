@@ -1,5 +1,5 @@
 -- What the walk over a program's domains follows: nodes by their numbers, counts as lists, items one by one.
-use Rattle.std.specs.Prelude.{ℕ, ◌<◌, ◌^◌, List, [], ◌∷◌, Option, unwrap_or, slice_index}
+use Rattle.std.specs.Prelude.{ℕ, ◌<◌, ◌^◌, List, Option, unwrap_or, slice_index}
 use Rattle.cd_tree.specs.declared.domain.NodeId.{NodeId}
 use Rattle.cd_tree.specs.declared.domain.Item.{Item}
 use Rattle.cd_tree.specs.declared.domain.Item.TheVariants.{Run, Group}

@@ -6,6 +6,8 @@ mod ends;
 mod sets;
 mod steps;
 mod strikes;
+#[cfg(test)]
+mod tests;
 mod through;
 mod walk;
 

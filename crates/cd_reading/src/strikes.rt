@@ -55,12 +55,7 @@ fn is_new(begins: &[Struck], begin: u64) -> bool
 }
 
 // The faults of one begin of a domain.
-fn one_struck(
-    alloc: Global,
-    faults: &[Fault],
-    node: NodeId,
-    begin: u64,
-) -> Result<Struck, NoMemory>
+fn one_struck(alloc: Global, faults: &[Fault], node: NodeId, begin: u64) -> Result<Struck, NoMemory>
     requires { length faults.now < 2 ^ 32 }
     ensures begin { IfOk result (λ struck. struck.begin ≡ begin) }
     ensures faults { IfOk result (λ struck. struck.faults ≡ filter (strikes_in node.0 begin) faults.now) }

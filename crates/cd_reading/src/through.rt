@@ -26,6 +26,7 @@ pub struct Reading {
 pub fn read_through(alloc: Global, tree: &Tree, script: &Script) -> Result<Reading, NoMemory>
     ensures begins { IfOk result (λ reading. reading.begins ≡ begins_in tree.now script.now) }
     ensures cause { IfOk result (λ reading. reading.cause ≡ cause_in tree.now script.now) }
+    ensures size { IfOk result (λ reading. length reading.begins ≡ length tree.now.domains) }
     ensures few { IfOk result (λ reading. All (λ n. n ≤ 1 + length script.now) reading.begins) }
 {
     laws::counts_are_at_most_one_more_than_entries();

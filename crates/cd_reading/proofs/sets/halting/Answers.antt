@@ -1,6 +1,6 @@
-use Rattle.std.proofs.Common.{◌≡◌, ◌+◌, ◌∙◌, ℕ, bit_or, drop, sym, ap}
-use Rattle.cd_tree.specs.KindSets.{halting, halting_from}
-use Rattle.cd_reading.proofs.KindLemmas.{none_or, halting_more, halting_same, halting_all}
+use Rattle.std.proofs.Common.{◌+◌, ◌∙◌, ℕ, bit_or, drop, ap}
+use Rattle.cd_tree.specs.KindSets.{halting_from}
+use Rattle.cd_reading.proofs.KindLemmas.{halting_more, halting_same, halting_all}
 use Rattle.cd_reading.proofs.sets.halting.Goals as goal
 use Rattle.cd_reading.proofs.sets.halting.Goals.{then-name, else-name}
 

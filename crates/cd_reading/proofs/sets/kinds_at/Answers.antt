@@ -1,4 +1,4 @@
-use Rattle.std.proofs.Common.{◌≡◌, ◌==◌, ◌+◌, ◌∙◌, ℕ, bit_or, drop, filter, sym, ap, get_or}
+use Rattle.std.proofs.Common.{◌==◌, ◌+◌, ◌∙◌, ℕ, bit_or, drop, filter, ap}
 use Rattle.std.proofs.lemmas.Bool.{eq-eqb}
 use Rattle.cd_tree.specs.Scripts.{kinds_of}
 use Rattle.cd_tree.specs.declared.document.Fault.{Fault}

@@ -1,4 +1,4 @@
-use Rattle.std.proofs.Common.{◌+◌, ◌∙◌, sym, subst, arith, rules}
+use Rattle.std.proofs.Common.{◌+◌, ◌∙◌, sym, subst, arith}
 use Rattle.cd_reading.proofs.KindLemmas.{IsLeft, alone_with, alone_out, left_all}
 use Rattle.cd_reading.proofs.sets.without.Goals as goal
 use Rattle.cd_reading.proofs.sets.without.Goals.{then-has_alone, else-has_alone}

@@ -1,4 +1,4 @@
-use Rattle.std.proofs.Common.{◌≡◌, ◌+◌, ◌∙◌, ◌∷◌, ◌++◌, [], All, get_or, sym, subst}
+use Rattle.std.proofs.Common.{◌≡◌, ◌+◌, ◌∙◌, All, get_or, sym, subst}
 use Rattle.std.proofs.lemmas.Bool.{false≢true}
 use Rattle.cd_reading.proofs.KindLemmas.{no_fault}
 use Rattle.cd_reading.proofs.StruckLemmas.{StruckSo, so_same, so_more}

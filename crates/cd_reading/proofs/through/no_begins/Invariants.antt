@@ -1,4 +1,4 @@
-use Rattle.std.proofs.Common.{◌≡◌, ℕ, length, All}
+use Rattle.std.proofs.Common.{◌≡◌, length, All}
 use Rattle.cd_reading.proofs.through.no_begins.Given as goal
 
 abbrev pub invariant-loop : goal.invariant-loop

@@ -1,8 +1,5 @@
-use Rattle.std.proofs.Common.{rules, ◌≡◌, ◌<◌, ◌≤◌, ◌+◌, ◌^◌, ◌∙◌, ℕ, List, All, length, take, sym, ap, subst, arith}
-use Rattle.cd_tree.specs.Reading.{NodeEnd}
-use Rattle.cd_tree.specs.Record.{reading}
+use Rattle.std.proofs.Common.{◌≡◌, ◌≤◌, ◌+◌, ◌∙◌, ℕ, List, All, length, sym, ap, subst, arith}
 use Rattle.cd_reading.specs.Ends.{node_end}
-use Rattle.cd_reading.specs.Walk.{listed}
 use Rattle.cd_reading.proofs.Whole.{all_few, begins_are, begins_few, cause_is, HasRead, has_read, written_back}
 use Rattle.cd_reading.proofs.through.read_through.Goals as goal
 
@@ -62,3 +59,11 @@ returns-clause-few c =
     c.of-begins.ensures ∙ written_back counts _ c.in_ok-counts.counts.len (omega (arith, c.in_ok-counts.counts.ok)) in
     subst (λ (xs : List ℕ). All (λ (n : ℕ). n ≤ 1 + length script) xs) (sym back)
     (begins_few c.counts_are_at_most_one_more_than_entries.ensures tree script counts c.count.ensures.sound read.counts)
+
+pub returns-clause-size : goal.returns-clause-size
+returns-clause-size c =
+    let counts = c.read_domain-end.new.counts in
+    let size : length counts ≡ length c.in_ok-counts.counts.items = c.read_domain-end.auto.counts ∙ ap length c.deref_mut.ensures.value in
+    let back : c.of-begins.result ≡ counts =
+    c.of-begins.ensures ∙ written_back counts _ c.in_ok-counts.counts.len (omega (arith, c.in_ok-counts.counts.ok)) in
+    ap length back ∙ size ∙ c.in_ok-counts.ensures.size ∙ c.count.ensures.value

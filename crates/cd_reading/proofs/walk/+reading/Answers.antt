@@ -1,15 +1,14 @@
-use Rattle.std.proofs.Common.{rules, ◌≡◌, ◌<◌, ◌^◌, ◌+◌, ◌-◌, ◌*◌, ◌∙◌, ℕ, [], ◌∷◌, Some, length, drop, get_or, set, slice_get, slice_index, true, false, refl, sym, ap, subst, length-set, arith}
-use Rattle.std.proofs.lemmas.List.{drop_all}
+use Rattle.std.proofs.Common.{rules, ◌≡◌, ◌<◌, ◌^◌, ◌+◌, ◌-◌, ◌∙◌, [], ◌∷◌, length, drop, get_or, set, slice_index, true, refl, sym, subst, length-set, arith}
 use Rattle.std.proofs.lemmas.Option.{slice_get_within}
 use Rattle.cd_tree.specs.Domains.{body_by, members_by, node_of}
 use Rattle.cd_tree.specs.KindSets.{no_kinds}
 use Rattle.cd_tree.specs.Outlines.{FitsItems, NamesChildren}
-use Rattle.cd_tree.specs.Reading.{Counts, Told, TryEnd, read_node, read_try, read_points, read_members}
+use Rattle.cd_tree.specs.Reading.{read_node, read_try, read_points, read_members}
 use Rattle.cd_tree.specs.Record.{case_of}
 use Rattle.cd_reading.specs.Ends.{try_end, node_end, group_end}
-use Rattle.cd_reading.specs.Steps.{quiet, try_of, went}
-use Rattle.cd_reading.specs.Walk.{the_node, listed, AreCounts, item_read, item_counts}
-use Rattle.cd_reading.proofs.Quiet.{try_failed, try_other, try_last}
+use Rattle.cd_reading.specs.Steps.{try_of}
+use Rattle.cd_reading.specs.Walk.{the_node, listed, AreCounts, item_counts}
+use Rattle.cd_reading.proofs.Quiet.{try_failed}
 use Rattle.cd_reading.proofs.Walking.{tree_fits, kinds_are, point_over, point_on, item_few, item_over, item_on, end_over, end_on, member_here, member_few, member_read, members_end}
 use Rattle.cd_reading.proofs.Following.{halting_small, group_named, group_few, item_fits, points_next, points_none, no_id, members_next, members_none, tries_begin, try_few, begin_few, try_read, try_counts}
 use Rattle.cd_reading.proofs.walk.+reading.Goals as goal
@@ -61,11 +60,12 @@ read_all_members-loop-id-preserved t c =
     let rest = drop (i + 1) c.args.ids.now in
     let whole = read_members w (members_by (node_of tree.domains) c.args.ids.now) (listed c.args.counts.now) in
     let left = members_next w tree.domains c.args.parent.0 (group_end c.loop-id.ends) (listed c.loop-id.counts) c.args.ids.now i whole
-    c.loop-id-test.true c.loop-id.invariant.0 in
-    (member_read w tree c.requires.case.sound c.the_nested_view_follows_the_list.ensures c.args.parent.0 (group_end c.loop-id.ends)
-    (group_end c.and-ends.result) (listed c.loop-id.counts) (listed c.read_domain.new.counts) (node_end c.read_domain.result) id rest whole
-    c.read_domain.ensures.reads c.and-ends.ensures.end left,
-    c.and-ends.ensures.fits (length tree.domains) c.loop-id.invariant.1 c.read_domain.ensures.fits)
+    c.loop-id-test.true c.loop-id.invariant.0 in (
+      member_read w tree c.requires.case.sound c.the_nested_view_follows_the_list.ensures c.args.parent.0 (group_end c.loop-id.ends)
+          (group_end c.and-ends.result) (listed c.loop-id.counts) (listed c.read_domain.new.counts) (node_end c.read_domain.result) id rest whole
+          c.read_domain.ensures.reads c.and-ends.ensures.end left,
+      c.and-ends.ensures.fits (length tree.domains) c.loop-id.invariant.1 c.read_domain.ensures.fits,
+    )
 
 pub read_all_members-returns-clause-reads : goal.read_all_members-returns-clause-reads
 read_all_members-returns-clause-reads t c =

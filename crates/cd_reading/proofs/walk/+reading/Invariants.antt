@@ -1,9 +1,9 @@
-use Rattle.std.proofs.Common.{◌≡◌, ℕ, ◌+◌, ◌-◌, ◌*◌, ◌<◌, length, drop}
+use Rattle.std.proofs.Common.{◌+◌, ◌-◌, ◌*◌, length, drop}
 use Rattle.cd_tree.specs.Domains.{node_of, body_by, members_by}
 use Rattle.cd_tree.specs.KindSets.{no_kinds}
 use Rattle.cd_tree.specs.Reading.{read_node, read_points, read_members}
 use Rattle.cd_tree.specs.Record.{case_of}
-use Rattle.cd_reading.specs.Ends.{group_end, GroupFits, IsSmallGroup}
+use Rattle.cd_reading.specs.Ends.{group_end, GroupFits}
 use Rattle.cd_reading.specs.Steps.{try_of}
 use Rattle.cd_reading.specs.Walk.{the_node, listed}
 use Rattle.cd_reading.proofs.Quiet.{TriesLeft}
