@@ -1,0 +1,7 @@
+pub mod KindLemmas
+pub mod StruckLemmas
+pub mod Quiet
+pub mod Rises
+pub mod Walking
+pub mod Following
+pub mod Whole

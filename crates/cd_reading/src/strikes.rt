@@ -1,0 +1,89 @@
+// The faults of a script by the domain and the begin at which they strike.
+ghost use Rattle.std.specs.Prelude.{◌≡◌, ◌≢◌, ◌↔◌, ◌<◌, ◌≤◌, ◌^◌, ℕ, List, All, IsTrue, filter, length, IfOk, OnOk};
+ghost use Rattle.cd_tree.specs.declared.document.Fault.{Fault};
+ghost use Rattle.cd_reading.specs.Strikes.{strikes_in, AreStruck, AreAllStruck};
+ghost use Rattle.cd_reading.specs.declared.strikes.Struck.{Struck};
+
+use cd_base::{Items, NoMemory};
+use cd_tree::{Fault, NodeId, Script};
+use std::alloc::Global;
+
+// The faults of one begin of a domain, in script order.
+#[derive(Drop)]
+pub(crate) struct Struck {
+    begin: u64,
+    faults: Items<Fault>,
+}
+
+// For each of so many domains, the faults of each of its begins. Each domain is compared with each fault.
+pub(crate) fn all_struck(
+    alloc: Global,
+    script: &Script,
+    count: u32,
+) -> Result<Vec<Items<Struck>>, NoMemory>
+    ensures size { IfOk result (λ domains. length domains.items ≡ count) }
+    ensures few { OnOk result (length script.now < 2 ^ 32) }
+    ensures struck { IfOk result (λ domains. AreAllStruck script.now domains.items) }
+{
+    let faults = script.items();
+    let mut domains = Vec::new(alloc);
+    for id in 0..count {
+        domains.push(struck_of(alloc, faults, NodeId(id))?)?;
+    }
+    Ok(domains)
+}
+
+// The faults of each begin of a domain.
+fn struck_of(alloc: Global, faults: &[Fault], node: NodeId) -> Result<Items<Struck>, NoMemory>
+    requires { length faults.now < 2 ^ 32 }
+    ensures { IfOk result (AreStruck faults.now node.0) }
+{
+    let mut begins = Items::new(alloc);
+    for fault in faults {
+        if fault.node.0 == node.0 && is_new(begins.items(), fault.begin) {
+            begins.push(one_struck(alloc, faults, node, fault.begin)?)?;
+        }
+    }
+    Ok(begins)
+}
+
+// Whether none of these begins has this number.
+fn is_new(begins: &[Struck], begin: u64) -> bool
+    ensures { IsTrue result ↔ All (λ (struck : Struck). struck.begin ≢ begin) begins.now }
+{
+    begins.iter().all(|struck| struck.begin != begin)
+}
+
+// The faults of one begin of a domain.
+fn one_struck(alloc: Global, faults: &[Fault], node: NodeId, begin: u64) -> Result<Struck, NoMemory>
+    requires { length faults.now < 2 ^ 32 }
+    ensures begin { IfOk result (λ struck. struck.begin ≡ begin) }
+    ensures faults { IfOk result (λ struck. struck.faults ≡ filter (strikes_in node.0 begin) faults.now) }
+{
+    let mut own = Items::new(alloc);
+    for fault in faults {
+        if strikes_in(fault, node, begin) {
+            own.push(*fault)?;
+        }
+    }
+    Ok(Struck { begin, faults: own })
+}
+
+// Whether a fault strikes in this begin of this domain.
+fn strikes_in(fault: &Fault, node: NodeId, begin: u64) -> bool
+    ensures { result ≡ strikes_in node.0 begin fault.now }
+{
+    fault.node.0 == node.0 && fault.begin == begin
+}
+
+// The faults of a domain's begin with this number.
+pub(crate) fn struck_in(begins: &[Struck], begin: u64) -> &[Fault]
+    ensures { (faults : List Fault) (node : ℕ) → AreStruck faults node begins.now → result.now ≡ filter (strikes_in node begin) faults }
+{
+    for struck in begins {
+        if struck.begin == begin {
+            return struck.faults.items();
+        }
+    }
+    &[]
+}

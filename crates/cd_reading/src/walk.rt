@@ -1,0 +1,131 @@
+// The walk over a program's domains that reads them: tries, points, items and members, each as the reading says.
+ghost use Rattle.std.specs.Prelude.{◌≡◌, ◌<◌, ◌^◌, ℕ, [], ◌∷◌, Some, length, slice_get, true};
+ghost use Rattle.cd_tree.specs.Domains.{body_by, members_by, node_of};
+ghost use Rattle.cd_tree.specs.KindSets.{no_kinds};
+ghost use Rattle.cd_tree.specs.Outlines.{FitsItems, NamesChildren};
+ghost use Rattle.cd_tree.specs.Reading.{Counts, Told, TryEnd, read_node, read_try, read_points, read_members};
+ghost use Rattle.cd_tree.specs.Record.{case_of};
+ghost use Rattle.cd_reading.specs.Cases.{IsCase};
+ghost use Rattle.cd_reading.specs.Ends.{try_end, node_end, group_end, TryFits, NodeFits, GroupFits, IsSmallGroup};
+ghost use Rattle.cd_reading.specs.Steps.{quiet, try_of, went, StepFits};
+ghost use Rattle.cd_reading.specs.Walk.{the_node, listed, AreCounts, item_read, item_counts};
+
+use crate::case::Case;
+use crate::ends::{Ended, Grouped, Tried};
+use crate::sets::kinds_at;
+use crate::steps::{Step, Try};
+use cd_tree::{Domain, Item, Kinds, NodeId, laws};
+
+// A domain from its begin to its end: as many tries as it has, while they fail.
+#[cycle(reading)]
+pub(crate) fn read_domain(case: &Case, id: NodeId, counts: &mut [u64]) -> Ended
+    requires case { IsCase case.now }
+    requires node { id.0 < length case.now.tree.now.domains }
+    requires size { length counts.old ≡ length case.now.tree.now.domains }
+    requires counts { AreCounts (read_node (case_of case.now.tree.now case.now.script.now) (the_node case.now.tree.now.domains id) (listed counts.old)).counts }
+    ensures reads { quiet (read_node (case_of case.now.tree.now case.now.script.now) (the_node case.now.tree.now.domains id) (listed counts.old)) ≡ (listed counts.new, node_end result) }
+    ensures fits { NodeFits (length case.now.tree.now.domains) result }
+{
+    laws::the_nested_view_follows_the_list();
+    let domain = case.tree.node(id);
+    for _ in 1..domain.retry {
+        let end = read_one_try(case, id, domain, counts);
+        if !end.is_failed() {
+            return end.last();
+        }
+    }
+    let end = read_one_try(case, id, domain, counts);
+    end.last()
+}
+
+// One try of a domain: the count rises, and the points follow.
+#[cycle(reading)]
+fn read_one_try(case: &Case, id: NodeId, domain: &Domain, counts: &mut [u64]) -> Tried
+    requires case { IsCase case.now }
+    requires domain { slice_get case.now.tree.now.domains id.0 ≡ Some domain.now }
+    requires size { length counts.old ≡ length case.now.tree.now.domains }
+    requires counts { AreCounts (read_try (case_of case.now.tree.now case.now.script.now) id domain.now (body_by (node_of case.now.tree.now.domains) domain.now.items) true (listed counts.old)).counts }
+    ensures reads { quiet (read_try (case_of case.now.tree.now case.now.script.now) id domain.now (body_by (node_of case.now.tree.now.domains) domain.now.items) true (listed counts.old)) ≡ (listed counts.new, try_end result) }
+    ensures fits { TryFits (length case.now.tree.now.domains) result }
+{
+    let begin = counts[id.0 as usize] + 1;
+    counts[id.0 as usize] = begin;
+    let hand = Try {
+        node: id,
+        detects: domain.detects,
+        begin,
+    };
+    read_all_points(case, &hand, domain.items.items(), counts)
+}
+
+// The points of a try, each followed by its item.
+#[cycle(reading)]
+fn read_all_points(case: &Case, hand: &Try, items: &[Item], counts: &mut [u64]) -> Tried
+    requires case { IsCase case.now }
+    requires node { hand.now.node.0 < length case.now.tree.now.domains }
+    requires items { FitsItems case.now.tree.now.domains hand.now.node.0 items.now }
+    requires few { length items.now < 2 ^ 32 }
+    requires size { length counts.old ≡ length case.now.tree.now.domains }
+    requires counts { AreCounts (read_points (case_of case.now.tree.now case.now.script.now) (body_by (node_of case.now.tree.now.domains) items.now) (try_of hand.now) 0 no_kinds (listed counts.old)).counts }
+    ensures reads { quiet (read_points (case_of case.now.tree.now case.now.script.now) (body_by (node_of case.now.tree.now.domains) items.now) (try_of hand.now) 0 no_kinds (listed counts.old)) ≡ (listed counts.new, try_end result) }
+    ensures fits { TryFits (length case.now.tree.now.domains) result }
+{
+    let faults = case.struck_at(hand.node, hand.begin);
+    let mut notes = Kinds::none();
+    for (point, item) in items.iter().enumerate() {
+        let kinds = kinds_at(faults, point as u32);
+        let seen = match hand.arrive(case.halts, kinds, notes) {
+            Step::On(seen) => seen,
+            Step::Over(end) => return end,
+        };
+        match pass_item(case, hand, item, seen, counts) {
+            Step::On(all) => notes = all,
+            Step::Over(end) => return end,
+        }
+    }
+    let kinds = kinds_at(faults, items.len() as u32);
+    match hand.arrive(case.halts, kinds, notes) {
+        Step::On(seen) => hand.judge(seen),
+        Step::Over(end) => end,
+    }
+}
+
+// What follows a point: nothing behind an operation, the members behind a group.
+#[cycle(reading)]
+fn pass_item(case: &Case, hand: &Try, item: &Item, notes: Kinds, counts: &mut [u64]) -> Step
+    requires case { IsCase case.now }
+    requires node { hand.now.node.0 < length case.now.tree.now.domains }
+    requires item { FitsItems case.now.tree.now.domains hand.now.node.0 (item.now ∷ []) }
+    requires size { length counts.old ≡ length case.now.tree.now.domains }
+    requires counts { AreCounts (item_counts (case_of case.now.tree.now case.now.script.now) (node_of case.now.tree.now.domains) item.now (listed counts.old)) }
+    ensures step { (next : ℕ → Counts → Told TryEnd) → quiet (item_read (case_of case.now.tree.now case.now.script.now) (try_of hand.now) (node_of case.now.tree.now.domains) item.now notes (listed counts.old) next) ≡ quiet (went result (listed counts.new) (λ all. next all (listed counts.new))) }
+    ensures fits { StepFits (length case.now.tree.now.domains) result }
+{
+    match item {
+        Item::Run(_) => Step::On(notes),
+        Item::Group(members) => {
+            let end = read_all_members(case, hand.node, members.items(), counts);
+            hand.behind(end, notes)
+        }
+    }
+}
+
+// The members of a group in order, all of them.
+#[cycle(reading)]
+fn read_all_members(case: &Case, parent: NodeId, ids: &[NodeId], counts: &mut [u64]) -> Grouped
+    requires case { IsCase case.now }
+    requires parent { parent.0 < length case.now.tree.now.domains }
+    requires ids { NamesChildren case.now.tree.now.domains parent.0 ids.now }
+    requires size { length counts.old ≡ length case.now.tree.now.domains }
+    requires counts { AreCounts (read_members (case_of case.now.tree.now case.now.script.now) (members_by (node_of case.now.tree.now.domains) ids.now) (listed counts.old)).counts }
+    ensures reads { quiet (read_members (case_of case.now.tree.now case.now.script.now) (members_by (node_of case.now.tree.now.domains) ids.now) (listed counts.old)) ≡ (listed counts.new, group_end result) }
+    ensures fits { GroupFits (length case.now.tree.now.domains) result }
+    ensures small { IsSmallGroup result }
+{
+    laws::the_nested_view_follows_the_list();
+    let mut ends = Grouped::AllDone(Kinds::none());
+    for id in ids {
+        ends = ends.and(read_domain(case, *id, counts));
+    }
+    ends
+}
