@@ -1,8 +1,9 @@
 //! The program `cd`: it hands its words, standard input and standard output to `run_cd`, and ends with the status.
 #![tactic(auto)]
 
-use cd_app::{Words, run_cd};
+use cd_app::run_cd;
 use cd_base::{NoMemory, StdSink, StdSource, Text};
+use cd_command::Words;
 use cd_field::ScriptField;
 use std::alloc::{AllocError, Global};
 use std::process::ExitCode;

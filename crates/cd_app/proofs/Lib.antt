@@ -1,6 +1,3 @@
-mod LineLemmas
-mod NumberLemmas
-mod SoundLemmas
-mod DocumentLemmas
-mod ReadingLemmas
+pub mod WriteLemmas
+pub mod CallLemmas
 pub mod RunLemmas

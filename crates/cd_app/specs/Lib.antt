@@ -1,7 +1,3 @@
-pub mod Lines
-pub mod Numbers
-pub mod OneDomain
-pub mod Steps
-pub mod Sound
 pub mod Codes
+pub mod Parts
 pub mod Running

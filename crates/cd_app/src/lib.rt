@@ -1,13 +1,12 @@
-//! The program: it reads a document, runs it, and writes the report.
+//! The program: it reads its words and a document, and checks, reads through, lifts, makes or runs it.
 #![tactic(auto)]
 
-mod one_domain;
+mod actions;
+mod receive;
 mod run;
 mod status;
-#[cfg(test)]
-mod tests;
-mod words;
+mod tell;
 
+pub use actions::plain_cd;
 pub use run::run_cd;
 pub use status::Status;
-pub use words::Words;

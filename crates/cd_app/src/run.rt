@@ -1,22 +1,30 @@
-ghost use Rattle.std.specs.Prelude.{◌≡◌, ◌≤◌, ◌↔◌, ◌∷◌, [], IsTrue, IfOk, OnOk, IfSome, None, length};
-ghost use Rattle.cd_app.specs.Running.{Meets, HasCommand, HoldsRun, reading_of, cause_in, call_of, written, text_limit, status_said, status_of, MeetsRefusal, MeetsDocument, MeetsText};
-ghost use Rattle.cd_report.specs.Texts.{CanBeNamed};
-ghost use Rattle.cd_app.specs.Sound.{IsOneDomain};
+ghost use Rattle.std.specs.Prelude.{◌≡◌, ◌≤◌, ◌↔◌, ◌∷◌, ℕ, List, [], length, All, IsTrue, IfOk, OnOk};
+ghost use Rattle.std.specs.Option.{option_copied};
+ghost use Rattle.cd_base.specs.Ends.{WriteAll};
+ghost use Rattle.cd_tree.specs.declared.domain.How.TheVariants as kept;
+ghost use Rattle.cd_tree.specs.declared.domain.Entry.{Entry};
+ghost use Rattle.cd_core.specs.Single.{OnlyCopies};
+ghost use Rattle.cd_check.specs.Checking.{Passes};
+ghost use Rattle.cd_parse.specs.WellRead.{WellRead};
+ghost use Rattle.cd_reading.specs.Through.{begins_in, cause_in};
+ghost use Rattle.cd_app.specs.Running.{Accepts, Call, Meets, IsBuilt, IsRun, HoldsRun, call_of, written, report_of};
+ghost use Rattle.cd_app.specs.Parts.{IsPlanned, record_asked};
 
-use crate::one_domain::{accepted, read_document};
-use crate::{Status, Words};
-use cd_base::{NoMemory, ReadStop, Sink, Source, WriteStop, read_all};
+use crate::receive::{Accepted, receive};
+use crate::tell::{finished, said, tell};
+use crate::{Status, plain_cd};
+use cd_base::{NoMemory, Sink, Source, WriteStop};
+use cd_command::{Command, Words, command_of};
 use cd_core::run_one;
 use cd_field::Field;
-use cd_report::{write_read_fault, write_refusal, write_run, write_usage};
-use cd_tree::{Begins, Cause, Document, Refusal, Refuse, laws};
+use cd_parse::laws::a_document_is_well_read;
+use cd_reading::halting;
+use cd_report::{write_not_built, write_run};
+use cd_tree::{Begins, Cause, Document, Entry, How, NodeId, Tree, laws};
 use std::alloc::Global;
 
-// The most bytes that a text may have.
-const TEXT_LIMIT: u32 = 1_048_576;
-
-/// Does what the words say: as yet the one word `run`, which reads a document from the source, runs it on the machine,
-/// and writes the report to the sink.
+/// Does what the words say. `run` reads a document from the source, runs it on the machine, and writes the report to the
+/// sink; all else is done by `plain_cd`. The number of workers has no effect as yet.
 pub fn run_cd<S: Source, K: Sink, F: Field>(
     alloc: Global,
     words: &Words,
@@ -28,73 +36,66 @@ pub fn run_cd<S: Source, K: Sink, F: Field>(
     ensures read_count { S.faults source.old ≤ S.faults source.new }
     ensures write_count { K.faults sink.old ≤ K.faults sink.new }
 {
-    if !is_run(words) {
-        return said(write_usage(sink), Status::Usage);
-    }
-    match read_all(alloc, source, TEXT_LIMIT) {
-        Ok(bytes) => run_text(alloc, bytes.as_slice(), sink, machine),
-        Err(ReadStop::TooLong) => refuse(alloc, Refusal::TooLong, sink),
-        Err(ReadStop::Failed) => said(write_read_fault(sink), Status::ReadFault),
-        Err(ReadStop::NoMemory) => Status::NoMemory,
+    match command_of(alloc, words) {
+        Ok(command) => match record_asked(command) {
+            Some(with_record) => run_source(alloc, with_record, source, sink, machine),
+            None => plain_cd(alloc, words, source, sink),
+        },
+        Err(NoMemory) => Status::NoMemory,
     }
 }
 
-// Whether the words are the one word `run`.
-fn is_run(words: &Words) -> bool
-    ensures { IsTrue result ↔ HasCommand words.now }
+// Whether the record of a run is to be written; none where the command is no run.
+fn record_asked(command: Option<Command>) -> Option<bool>
+    ensures { result ≡ record_asked command }
 {
-    match words.items() {
-        [word] => word.as_str() == "run",
-        _ => false,
+    match command {
+        Some(Command::Run { with_record, .. }) => Some(with_record),
+        _ => None,
     }
 }
 
-// The status of a call that wrote its own line, which it keeps where the sink failed.
-fn said(wrote: Result<(), WriteStop>, status: Status) -> Status
-    ensures { result ≡ status_said wrote status }
-{
-    match wrote {
-        Ok(()) | Err(WriteStop::Failed) => status,
-        Err(WriteStop::NoMemory) => Status::NoMemory,
-    }
-}
-
-// Writes the line of a refusal.
-fn refuse<K: Sink>(alloc: Global, refusal: Refusal, sink: &mut K) -> Status
-    requires { CanBeNamed None refusal }
-    ensures meets { MeetsRefusal (written (K.holds sink.old) (K.holds sink.new) (K.faults sink.old) (K.faults sink.new)) refusal result }
-    ensures count { K.faults sink.old ≤ K.faults sink.new }
-{
-    let wrote = write_refusal(alloc, None, &refusal, sink);
-    said(wrote, Status::Refused(refusal))
-}
-
-// Runs a text on the machine, or refuses it.
-fn run_text<K: Sink, F: Field>(alloc: Global, bytes: &[u8], sink: &mut K, machine: &mut F) -> Status
-    requires { length bytes.now ≤ text_limit }
-    ensures meets { MeetsText bytes.now (F.state machine.old) (F.state machine.new) (written (K.holds sink.old) (K.holds sink.new) (K.faults sink.old) (K.faults sink.new)) result }
-    ensures count { K.faults sink.old ≤ K.faults sink.new }
-{
-    match read_document(alloc, bytes) {
-        Ok(document) => run_document(alloc, &document, sink, machine),
-        Err(Refuse::Refused(refusal)) => refuse(alloc, refusal, sink),
-        Err(Refuse::NoMemory) => Status::NoMemory,
-    }
-}
-
-// Runs a document on the machine and writes the report.
-fn run_document<K: Sink, F: Field>(
+// Runs the document that the source gives.
+fn run_source<S: Source, K: Sink, F: Field>(
     alloc: Global,
-    document: &Document,
+    with_record: bool,
+    source: &mut S,
     sink: &mut K,
     machine: &mut F,
 ) -> Status
-    requires { IsOneDomain document.now }
-    ensures meets { MeetsDocument document.now (F.state machine.new) (written (K.holds sink.old) (K.holds sink.new) (K.faults sink.old) (K.faults sink.new)) result }
+    ensures meets { (words : List (List ℕ)) → IsRun words with_record → Meets (call_of words (S.left source.old) (S.left source.new) (S.faults source.old) (S.faults source.new) (F.state machine.old) (F.state machine.new)) (written (K.holds sink.old) (K.holds sink.new) (K.faults sink.old) (K.faults sink.new)) result }
+    ensures read_count { S.faults source.old ≤ S.faults source.new }
+    ensures write_count { K.faults sink.old ≤ K.faults sink.new }
+{
+    a_document_is_well_read();
+    match receive(alloc, source) {
+        Ok(accepted) => run_accepted(alloc, with_record, &accepted, sink, machine),
+        Err(stop) => tell(alloc, stop, sink),
+    }
+}
+
+// Runs an accepted document, if the engine can.
+fn run_accepted<K: Sink, F: Field>(
+    alloc: Global,
+    with_record: bool,
+    accepted: &Accepted,
+    sink: &mut K,
+    machine: &mut F,
+) -> Status
+    requires read { WellRead accepted.now.document }
+    requires passes { Passes accepted.now.document accepted.now.script }
+    requires planned { IsPlanned accepted.now.document accepted.now.need }
+    ensures meets { (call : Call) → IsRun call.words with_record → Accepts call.had call.left accepted.now.document accepted.now.script → call.was ≡ F.state machine.old → call.now ≡ F.state machine.new → Meets call (written (K.holds sink.old) (K.holds sink.new) (K.faults sink.old) (K.faults sink.new)) result }
     ensures count { K.faults sink.old ≤ K.faults sink.new }
 {
-    match run_machine(alloc, document, machine) {
-        Ok((begins, cause)) => report(alloc, document, machine, begins, cause, sink),
+    if !is_built(&accepted.document.tree) {
+        return said(write_not_built(sink), Status::NotBuilt);
+    }
+    match run_machine(alloc, accepted, machine) {
+        Ok((begins, cause)) => {
+            let wrote = report(alloc, accepted, machine, begins, cause.as_ref(), with_record, sink);
+            finished(wrote, cause)
+        }
         Err(NoMemory) => Status::NoMemory,
     }
 }
@@ -102,64 +103,84 @@ fn run_document<K: Sink, F: Field>(
 // Loads the machine and runs the document's program on it.
 fn run_machine<F: Field>(
     alloc: Global,
-    document: &Document,
+    accepted: &Accepted,
     machine: &mut F,
 ) -> Result<(u64, Option<Cause>), NoMemory>
-    requires { IsOneDomain document.now }
-    ensures machine { OnOk result (HoldsRun document.now (F.state machine.new)) }
-    ensures begins { IfOk result (λ ran. ran.0 ≡ (reading_of document.now).counts 0) }
-    ensures cause { IfOk result (λ ran. ran.1 ≡ cause_in document.now) }
-    ensures path { IfOk result (λ ran. IfSome ran.1 (λ cause. cause.path ≡ record { 0 = 0 } ∷ [])) }
+    requires read { WellRead accepted.now.document }
+    requires passes { Passes accepted.now.document accepted.now.script }
+    requires planned { IsPlanned accepted.now.document accepted.now.need }
+    requires built { IsBuilt accepted.now.document.tree }
+    ensures machine { OnOk result (HoldsRun accepted.now.document accepted.now.script (F.state machine.new)) }
+    ensures begins { IfOk result (λ ran. ran.0 ∷ [] ≡ begins_in accepted.now.document.tree accepted.now.script) }
+    ensures cause { IfOk result (λ ran. ran.1 ≡ cause_in accepted.now.document.tree accepted.now.script) }
 {
     laws::a_covered_domain_reaches_its_entries_alone();
-    let script = accepted(alloc, &document.faults)?;
-    machine.load(&document.regions, &script)?;
-    run_one(alloc, &document.tree, machine)
+    machine.load(&accepted.document.regions, &accepted.script)?;
+    run_one(alloc, &accepted.document.tree, machine)
 }
 
 // Writes the report of a run.
+#[tactic(auto, unfolding(crate::specs::Running::report_of))]
 fn report<K: Sink, F: Field>(
     alloc: Global,
-    document: &Document,
+    accepted: &Accepted,
     machine: &F,
     begins: u64,
-    cause: Option<Cause>,
+    cause: Option<&Cause>,
+    with_record: bool,
     sink: &mut K,
-) -> Status
-    requires document { IsOneDomain document.now }
-    requires ran { HoldsRun document.now (F.state machine.now) }
-    requires begins { begins ≡ (reading_of document.now).counts 0 }
-    requires cause { cause ≡ cause_in document.now }
-    requires path { IfSome cause (λ cause. cause.path ≡ record { 0 = 0 } ∷ []) }
-    ensures meets { MeetsDocument document.now (F.state machine.now) (written (K.holds sink.old) (K.holds sink.new) (K.faults sink.old) (K.faults sink.new)) result }
+) -> Result<(), WriteStop>
+    requires built { IsBuilt accepted.now.document.tree }
+    requires ran { HoldsRun accepted.now.document accepted.now.script (F.state machine.now) }
+    requires begins { begins ∷ [] ≡ begins_in accepted.now.document.tree accepted.now.script }
+    requires cause { option_copied cause ≡ cause_in accepted.now.document.tree accepted.now.script }
+    ensures meets { WriteAll (K.holds sink.old) (K.holds sink.new) (K.faults sink.old) (K.faults sink.new) (report_of with_record accepted.now.document accepted.now.script) result }
     ensures count { K.faults sink.old ≤ K.faults sink.new }
 {
     laws::words_stay();
     let Ok(counts) = vec![in alloc; begins] else {
-        return Status::NoMemory;
+        return Err(WriteStop::NoMemory);
     };
-    let begins = Begins::of(counts);
-    match write_run(
+    let document = &accepted.document;
+    write_run(
         alloc,
         &document.tree,
         &document.regions,
         machine,
-        &begins,
-        cause.as_ref(),
+        &Begins::of(counts),
+        cause,
+        with_record,
         sink,
-    ) {
-        Ok(()) => ended(cause),
-        Err(WriteStop::Failed) => Status::WriteFault,
-        Err(WriteStop::NoMemory) => Status::NoMemory,
-    }
+    )
 }
 
-// The status of a run whose report was written.
-fn ended(cause: Option<Cause>) -> Status
-    ensures { result ≡ status_of cause }
+// Whether the engine can run a program as yet.
+fn is_built(tree: &Tree) -> bool
+    ensures { IsTrue result ↔ IsBuilt tree.now }
 {
-    match cause {
-        None => Status::Done,
-        Some(cause) => Status::Exhausted(cause),
+    tree.count() == 1 && keeps_copies(tree) && halting(tree.kinds()).is_none()
+}
+
+// Whether the entries of the root are copies.
+fn keeps_copies(tree: &Tree) -> bool
+    requires { length tree.now.domains ≡ 1 }
+    ensures { IsTrue result ↔ OnlyCopies tree.now }
+{
+    prove!(tree.count() == 1);
+    are_copies(tree.node(NodeId(0)).entries.items())
+}
+
+fn are_copies(entries: &[Entry]) -> bool
+    ensures { IsTrue result ↔ All (λ (entry : Entry). entry.how ≡ kept.Copy) entries.now }
+{
+    entries.iter().all(|entry| is_copy(&entry.how))
+}
+
+fn is_copy(how: &How) -> bool
+    ensures { IsTrue result ↔ (how.now ≡ kept.Copy) }
+{
+    match how {
+        How::Copy => true,
+        How::Refer | How::Regen(_) => false,
     }
 }

@@ -6,7 +6,7 @@ use cd_tree::{Cause, Refusal};
 /// How a call of the program ends.
 #[derive(Drop)]
 pub enum Status {
-    /// The run committed, and its report was written.
+    /// The run committed, or the action's text was made; and the text was written.
     Done,
     /// The root used up its tries for this cause, and the report was written.
     Exhausted(Cause),
@@ -16,10 +16,12 @@ pub enum Status {
     Refused(Refusal),
     /// The source could not be read.
     ReadFault,
-    /// The report could not be written whole.
+    /// The text could not be written whole.
     WriteFault,
     /// There was not enough memory.
     NoMemory,
+    /// The document is accepted, and the engine cannot run it as yet.
+    NotBuilt,
 }
 
 impl Status {
@@ -35,6 +37,7 @@ impl Status {
             Status::ReadFault => 4,
             Status::WriteFault => 5,
             Status::NoMemory => 6,
+            Status::NotBuilt => 9,
         }
     }
 }

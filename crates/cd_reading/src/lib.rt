@@ -11,4 +11,5 @@ mod tests;
 mod through;
 mod walk;
 
+pub use sets::halting;
 pub use through::{Reading, read_through};

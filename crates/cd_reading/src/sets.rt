@@ -6,8 +6,8 @@ ghost use Rattle.cd_tree.specs.declared.document.Fault.{Fault};
 
 use cd_tree::{Fault, Kind, KindName, Kinds};
 
-// The kinds that halt.
-pub(crate) fn halting(names: &[KindName]) -> Kinds
+/// The kinds that halt, of a list of at most sixteen. It takes no memory.
+pub fn halting(names: &[KindName]) -> Kinds
     requires { length names.now ≤ 16 }
     ensures { result ≡ halting names.now }
 {
