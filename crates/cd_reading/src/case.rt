@@ -1,6 +1,6 @@
 // A program under a script, with what its reading asks again and again.
 ghost use Rattle.std.specs.Prelude.{◌≡◌, ◌<◌, filter, length, IfOk};
-ghost use Rattle.cd_reading.specs.Cases.{IsCase};
+ghost use Rattle.cd_reading.specs.Cases.{IsCase, domains_of};
 ghost use Rattle.cd_reading.specs.Strikes.{strikes_in};
 
 use crate::sets::halting;
@@ -40,7 +40,7 @@ impl<'a> Case<'a> {
     // The faults that strike at a begin of a domain.
     pub(crate) fn struck_at(&self, node: NodeId, begin: u64) -> &[Fault]
         requires case { IsCase self.now }
-        requires node { node.0 < length self.now.tree.now.domains }
+        requires node { node.0 < length (domains_of self.now) }
         ensures { result.now ≡ filter (strikes_in node.0 begin) self.now.script.now }
     {
         struck_in(self.domains[node.0 as usize].items(), begin)

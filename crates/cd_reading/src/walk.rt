@@ -4,8 +4,7 @@ ghost use Rattle.cd_tree.specs.Domains.{body_by, members_by, node_of};
 ghost use Rattle.cd_tree.specs.KindSets.{no_kinds};
 ghost use Rattle.cd_tree.specs.Outlines.{FitsItems, NamesChildren};
 ghost use Rattle.cd_tree.specs.Reading.{Counts, Told, TryEnd, read_node, read_try, read_points, read_members};
-ghost use Rattle.cd_tree.specs.Record.{case_of};
-ghost use Rattle.cd_reading.specs.Cases.{IsCase};
+ghost use Rattle.cd_reading.specs.Cases.{IsCase, domains_of, given};
 ghost use Rattle.cd_reading.specs.Ends.{try_end, node_end, group_end, TryFits, NodeFits, GroupFits, IsSmallGroup};
 ghost use Rattle.cd_reading.specs.Steps.{quiet, try_of, went, StepFits};
 ghost use Rattle.cd_reading.specs.Walk.{the_node, listed, AreCounts, item_read, item_counts};
@@ -20,11 +19,11 @@ use cd_tree::{Domain, Item, Kinds, NodeId, laws};
 #[cycle(reading)]
 pub(crate) fn read_domain(case: &Case, id: NodeId, counts: &mut [u64]) -> Ended
     requires case { IsCase case.now }
-    requires node { id.0 < length case.now.tree.now.domains }
-    requires size { length counts.old ≡ length case.now.tree.now.domains }
-    requires counts { AreCounts (read_node (case_of case.now.tree.now case.now.script.now) (the_node case.now.tree.now.domains id) (listed counts.old)).counts }
-    ensures reads { quiet (read_node (case_of case.now.tree.now case.now.script.now) (the_node case.now.tree.now.domains id) (listed counts.old)) ≡ (listed counts.new, node_end result) }
-    ensures fits { NodeFits (length case.now.tree.now.domains) result }
+    requires node { id.0 < length (domains_of case.now) }
+    requires size { length counts.old ≡ length (domains_of case.now) }
+    requires counts { AreCounts (read_node (given case.now) (the_node (domains_of case.now) id) (listed counts.old)).counts }
+    ensures reads { quiet (read_node (given case.now) (the_node (domains_of case.now) id) (listed counts.old)) ≡ (listed counts.new, node_end result) }
+    ensures fits { NodeFits (length (domains_of case.now)) result }
 {
     laws::the_nested_view_follows_the_list();
     let domain = case.tree.node(id);
@@ -42,11 +41,11 @@ pub(crate) fn read_domain(case: &Case, id: NodeId, counts: &mut [u64]) -> Ended
 #[cycle(reading)]
 fn read_one_try(case: &Case, id: NodeId, domain: &Domain, counts: &mut [u64]) -> Tried
     requires case { IsCase case.now }
-    requires domain { slice_get case.now.tree.now.domains id.0 ≡ Some domain.now }
-    requires size { length counts.old ≡ length case.now.tree.now.domains }
-    requires counts { AreCounts (read_try (case_of case.now.tree.now case.now.script.now) id domain.now (body_by (node_of case.now.tree.now.domains) domain.now.items) true (listed counts.old)).counts }
-    ensures reads { quiet (read_try (case_of case.now.tree.now case.now.script.now) id domain.now (body_by (node_of case.now.tree.now.domains) domain.now.items) true (listed counts.old)) ≡ (listed counts.new, try_end result) }
-    ensures fits { TryFits (length case.now.tree.now.domains) result }
+    requires domain { slice_get (domains_of case.now) id.0 ≡ Some domain.now }
+    requires size { length counts.old ≡ length (domains_of case.now) }
+    requires counts { AreCounts (read_try (given case.now) id domain.now (body_by (node_of (domains_of case.now)) domain.now.items) true (listed counts.old)).counts }
+    ensures reads { quiet (read_try (given case.now) id domain.now (body_by (node_of (domains_of case.now)) domain.now.items) true (listed counts.old)) ≡ (listed counts.new, try_end result) }
+    ensures fits { TryFits (length (domains_of case.now)) result }
 {
     let begin = counts[id.0 as usize] + 1;
     counts[id.0 as usize] = begin;
@@ -62,13 +61,13 @@ fn read_one_try(case: &Case, id: NodeId, domain: &Domain, counts: &mut [u64]) ->
 #[cycle(reading)]
 fn read_all_points(case: &Case, hand: &Try, items: &[Item], counts: &mut [u64]) -> Tried
     requires case { IsCase case.now }
-    requires node { hand.now.node.0 < length case.now.tree.now.domains }
-    requires items { FitsItems case.now.tree.now.domains hand.now.node.0 items.now }
+    requires node { hand.now.node.0 < length (domains_of case.now) }
+    requires items { FitsItems (domains_of case.now) hand.now.node.0 items.now }
     requires few { length items.now < 2 ^ 32 }
-    requires size { length counts.old ≡ length case.now.tree.now.domains }
-    requires counts { AreCounts (read_points (case_of case.now.tree.now case.now.script.now) (body_by (node_of case.now.tree.now.domains) items.now) (try_of hand.now) 0 no_kinds (listed counts.old)).counts }
-    ensures reads { quiet (read_points (case_of case.now.tree.now case.now.script.now) (body_by (node_of case.now.tree.now.domains) items.now) (try_of hand.now) 0 no_kinds (listed counts.old)) ≡ (listed counts.new, try_end result) }
-    ensures fits { TryFits (length case.now.tree.now.domains) result }
+    requires size { length counts.old ≡ length (domains_of case.now) }
+    requires counts { AreCounts (read_points (given case.now) (body_by (node_of (domains_of case.now)) items.now) (try_of hand.now) 0 no_kinds (listed counts.old)).counts }
+    ensures reads { quiet (read_points (given case.now) (body_by (node_of (domains_of case.now)) items.now) (try_of hand.now) 0 no_kinds (listed counts.old)) ≡ (listed counts.new, try_end result) }
+    ensures fits { TryFits (length (domains_of case.now)) result }
 {
     let faults = case.struck_at(hand.node, hand.begin);
     let mut notes = Kinds::none();
@@ -94,12 +93,12 @@ fn read_all_points(case: &Case, hand: &Try, items: &[Item], counts: &mut [u64]) 
 #[cycle(reading)]
 fn pass_item(case: &Case, hand: &Try, item: &Item, notes: Kinds, counts: &mut [u64]) -> Step
     requires case { IsCase case.now }
-    requires node { hand.now.node.0 < length case.now.tree.now.domains }
-    requires item { FitsItems case.now.tree.now.domains hand.now.node.0 (item.now ∷ []) }
-    requires size { length counts.old ≡ length case.now.tree.now.domains }
-    requires counts { AreCounts (item_counts (case_of case.now.tree.now case.now.script.now) (node_of case.now.tree.now.domains) item.now (listed counts.old)) }
-    ensures step { (next : ℕ → Counts → Told TryEnd) → quiet (item_read (case_of case.now.tree.now case.now.script.now) (try_of hand.now) (node_of case.now.tree.now.domains) item.now notes (listed counts.old) next) ≡ quiet (went result (listed counts.new) (λ all. next all (listed counts.new))) }
-    ensures fits { StepFits (length case.now.tree.now.domains) result }
+    requires node { hand.now.node.0 < length (domains_of case.now) }
+    requires item { FitsItems (domains_of case.now) hand.now.node.0 (item.now ∷ []) }
+    requires size { length counts.old ≡ length (domains_of case.now) }
+    requires counts { AreCounts (item_counts (given case.now) (node_of (domains_of case.now)) item.now (listed counts.old)) }
+    ensures step { (next : ℕ → Counts → Told TryEnd) → quiet (item_read (given case.now) (try_of hand.now) (node_of (domains_of case.now)) item.now notes (listed counts.old) next) ≡ quiet (went result (listed counts.new) (λ all. next all (listed counts.new))) }
+    ensures fits { StepFits (length (domains_of case.now)) result }
 {
     match item {
         Item::Run(_) => Step::On(notes),
@@ -114,12 +113,12 @@ fn pass_item(case: &Case, hand: &Try, item: &Item, notes: Kinds, counts: &mut [u
 #[cycle(reading)]
 fn read_all_members(case: &Case, parent: NodeId, ids: &[NodeId], counts: &mut [u64]) -> Grouped
     requires case { IsCase case.now }
-    requires parent { parent.0 < length case.now.tree.now.domains }
-    requires ids { NamesChildren case.now.tree.now.domains parent.0 ids.now }
-    requires size { length counts.old ≡ length case.now.tree.now.domains }
-    requires counts { AreCounts (read_members (case_of case.now.tree.now case.now.script.now) (members_by (node_of case.now.tree.now.domains) ids.now) (listed counts.old)).counts }
-    ensures reads { quiet (read_members (case_of case.now.tree.now case.now.script.now) (members_by (node_of case.now.tree.now.domains) ids.now) (listed counts.old)) ≡ (listed counts.new, group_end result) }
-    ensures fits { GroupFits (length case.now.tree.now.domains) result }
+    requires parent { parent.0 < length (domains_of case.now) }
+    requires ids { NamesChildren (domains_of case.now) parent.0 ids.now }
+    requires size { length counts.old ≡ length (domains_of case.now) }
+    requires counts { AreCounts (read_members (given case.now) (members_by (node_of (domains_of case.now)) ids.now) (listed counts.old)).counts }
+    ensures reads { quiet (read_members (given case.now) (members_by (node_of (domains_of case.now)) ids.now) (listed counts.old)) ≡ (listed counts.new, group_end result) }
+    ensures fits { GroupFits (length (domains_of case.now)) result }
     ensures small { IsSmallGroup result }
 {
     laws::the_nested_view_follows_the_list();
