@@ -1,2 +1,4 @@
 pub mod TextLemmas
+pub mod CountLemmas
+pub mod RecordLemmas
 mod Worked

@@ -1,22 +1,23 @@
 -- Lemmas on texts that are made piece by piece.
-use Rattle.std.proofs.Common.{◌≡◌, ℕ, suc, ◌+◌, ◌-◌, ◌*◌, ◌%◌, ◌^◌, ◌<◌, ◌≤◌, Bool, true, false, List, [], ◌∷◌, ◌++◌, Option, None, Some, length, take, drop, sum, slice_get, get_or, if◌then◌else◌, codes, refl, sym, ap, ◌∙◌, subst, arith, append_assoc}
+use Rattle.std.proofs.Common.{◌≡◌, ℕ, suc, ◌+◌, ◌-◌, ◌*◌, ◌%◌, ◌^◌, ◌<◌, ◌≤◌, Bool, true, false, List, [], ◌∷◌, ◌++◌, Option, None, Some, length, map, take, drop, sum, slice_get, get_or, if◌then◌else◌, codes, refl, sym, ap, ◌∙◌, arith, append_assoc, length-append, unwrap_or}
 use Rattle.std.proofs.Math.Nat.{mod-add-mod, add-mod-mod}
 use Rattle.std.proofs.lemmas.List.{drop_more}
 use Rattle.std.proofs.lemmas.List.Sums.{sum_by-cons, sum_by_more, sum_by_more_le}
-use Rattle.std.proofs.lemmas.Option.{slice_get_within, slice_get_read, get_or_from_slice_get, same_Some}
+use Rattle.std.proofs.lemmas.Option.{slice_get_within, slice_get_past, get_or_from_slice_get}
 use Rattle.std.specs.Fmt.{decimal}
-use Rattle.std.specs.List.{last_or, flat_map}
-use Rattle.std.specs.Option.{option_map_or}
+use Rattle.std.specs.List.{flat_map, join_with_byte, last_or}
 use Rattle.cd_base.specs.declared.place.Place.{Place}
 use Rattle.cd_base.specs.Words.{Words, word_at, word_of}
 use Rattle.cd_tree.specs.declared.domain.NodeId.{NodeId}
 use Rattle.cd_tree.specs.declared.domain.Domain.{Domain}
+use Rattle.cd_tree.specs.Scripts.{path_under, paths_from, path_of}
+use Rattle.cd_tree.specs.Paths.{name_of, path_text_of}
 use Rattle.cd_tree.specs.declared.document.Region.{Region}
 use Rattle.cd_tree.specs.declared.document.Document.{Document}
 use Rattle.cd_tree.specs.declared.kinds.KindName.{KindName}
 use Rattle.cd_tree.specs.declared.refusal.Refusal.{Refusal}
 use Rattle.cd_tree.specs.declared.refusal.Refusal.TheVariants.{Overlap, Uncovered, NoTarget, Stale}
-use Rattle.cd_report.specs.Texts.{words_from, listed, weighted, names_text, begins_line, begins_lines, path_in, place_in, refusal_text, HasRegion, AreWithin}
+use Rattle.cd_report.specs.Texts.{words_from, listed, weighted, names_text, begins_line, begins_lines, path_in, place_in, refusal_text}
 
 -- a text with one piece more, and what is still to come
 pub next_piece : (before text next piece rest all : List ℕ) → text ++ all ≡ before → next ≡ text ++ piece → all ≡ piece ++ rest → next ++ rest ≡ before
@@ -103,42 +104,58 @@ pub names_next : (none : Bool) (kind : KindName) (kinds : List KindName)
 names_next true kind kinds = refl
 names_next false kind kinds = refl
 
-last_at : (o : Option NodeId) (id d : NodeId) (ids : List NodeId) → last_or o (id ∷ ids) ≡ Some (get_or (id ∷ ids) (length ids) d)
-last_at o id d [] = refl
-last_at o id d (other ∷ ids) = last_at (Some id) other d ids
+last_at : (o : Option NodeId) (id : NodeId) (ids : List NodeId) → last_or o (id ∷ ids) ≡ slice_get (id ∷ ids) (length ids)
+last_at o id [] = refl
+last_at o id (other ∷ ids) = last_at (Some id) other ids
 
--- the last of some ids
-pub last_of : (ids : List NodeId) (d : NodeId) → 0 < length ids → last_or None ids ≡ Some (get_or ids (length ids - 1) d)
-last_of [] d h = absurd (omega arith)
-last_of (id ∷ ids) d h =
+-- the last of some domains is the one with the greatest number
+pub last_of : (ids : List NodeId) → last_or None ids ≡ slice_get ids (length ids - 1)
+last_of [] = refl
+last_of (id ∷ ids) =
     let e : length ids ≡ suc (length ids) - 1 = omega arith in
-    last_at None id d ids ∙ ap (λ (k : ℕ). Some (get_or (id ∷ ids) k d)) e
+    last_at None id ids ∙ ap (slice_get (id ∷ ids)) e
 
-pub last_within : (count : ℕ) (ids : List NodeId) (id : NodeId) → 0 < length ids → AreWithin count ids → last_or None ids ≡ Some id → id.0 < count
-last_within count ids id some within last =
-    let e : get_or ids (length ids - 1) id ≡ id = same_Some (get_or ids (length ids - 1) id) id (sym (last_of ids id some) ∙ last) in
-    subst (λ (it : NodeId). it.0 < count) e (within (length ids - 1) id (omega arith))
+paths_length : (paths : List (List NodeId)) (domains : List Domain) → length (paths_from paths domains) ≡ length paths + length domains
+paths_length paths [] = omega arith
+paths_length paths (domain ∷ domains) =
+    let one : List NodeId = path_under paths domain.parent ++ record { 0 = length paths } ∷ [] in
+    omega (arith, paths_length (paths ++ one ∷ []) domains, length-append paths (one ∷ []))
+
+-- a domain that is not there has the empty path
+pub path_missing : (domains : List Domain) (id : NodeId) → length domains ≤ id.0 → path_text_of domains id ≡ []
+path_missing domains id h =
+    let none : slice_get (paths_from [] domains) id.0 ≡ None = slice_get_past (paths_from [] domains) id.0 (omega (arith, paths_length [] domains)) in
+    ap (λ (o : Option (List NodeId)). join_with_byte 47 (map (name_of domains) (unwrap_or o []))) none
 
 -- pieces joined from the right are the pieces joined from the left
-four_pieces : (a b c d : List ℕ) → a ++ (b ++ (c ++ d)) ≡ a ++ b ++ c ++ d
+pub four_pieces : (a b c d : List ℕ) → a ++ (b ++ (c ++ d)) ≡ a ++ b ++ c ++ d
 four_pieces a b c d = sym (append_assoc (a ++ b) c d ∙ append_assoc a b (c ++ d))
 
 six_pieces : (a b c d e f : List ℕ) → a ++ (b ++ (c ++ (d ++ (e ++ f)))) ≡ a ++ b ++ c ++ d ++ e ++ f
 six_pieces a b c d e f = four_pieces a b c (d ++ (e ++ f)) ∙ four_pieces (a ++ b ++ c) d e f
 
--- a place by its region's name, where the region was looked up in the document
-pub place_there : (document : Option Document) (there : Document) (regions : List Region) (region : Region) (p : Place) (name made : List ℕ)
-    → HasRegion document p.region → document ≡ Some there → regions ≡ there.regions → region ≡ get_or regions p.region region
-    → name ≡ region.name → made ≡ name ++ (codes "[" ++ (decimal p.index ++ codes "]")) → made ≡ place_in document p
-place_there document there regions region p name made has some same here called e =
-    let within : p.region < length there.regions = subst (λ (o : Option Document). HasRegion o p.region) some has in
-    let inside : p.region < length regions = subst (λ (rs : List Region). p.region < length rs) (sym same) within in
-    let found : slice_get there.regions p.region ≡ Some region =
-    ap (λ (rs : List Region). slice_get rs p.region) (sym same) ∙ slice_get_read regions (length regions) p.region region refl inside here in
-    let named : name ≡ option_map_or (λ (r : Region). r.name) (slice_get there.regions p.region) [] =
-    called ∙ ap (λ (o : Option Region). option_map_or (λ (r : Region). r.name) o []) (sym found) in
-    e ∙ four_pieces name (codes "[") (decimal p.index) (codes "]")
-    ∙ ap (λ (n : List ℕ). n ++ codes "[" ++ decimal p.index ++ codes "]") named ∙ ap (λ (o : Option Document). place_in o p) (sym some)
+pub five_pieces : (a b c d e : List ℕ) → a ++ (b ++ (c ++ (d ++ e))) ≡ a ++ b ++ c ++ d ++ e
+five_pieces a b c d e = four_pieces a b c (d ++ e) ∙ sym (append_assoc (a ++ b ++ c) d e)
+
+pub seven_pieces : (a b c d e f g : List ℕ) → a ++ (b ++ (c ++ (d ++ (e ++ (f ++ g))))) ≡ a ++ b ++ c ++ d ++ e ++ f ++ g
+seven_pieces a b c d e f g = four_pieces a b c (d ++ (e ++ (f ++ g))) ∙ four_pieces (a ++ b ++ c) d e (f ++ g) ∙ sym (append_assoc (a ++ b ++ c ++ d ++ e) f g)
+
+pub nine_pieces : (a b c d e f g h i : List ℕ)
+    → a ++ (b ++ (c ++ (d ++ (e ++ (f ++ (g ++ (h ++ i))))))) ≡ a ++ b ++ c ++ d ++ e ++ f ++ g ++ h ++ i
+nine_pieces a b c d e f g h i =
+    five_pieces a b c d (e ++ (f ++ (g ++ (h ++ i)))) ∙ five_pieces (a ++ b ++ c ++ d) e f g (h ++ i)
+    ∙ sym (append_assoc (a ++ b ++ c ++ d ++ e ++ f ++ g) h i)
+
+pub eleven_pieces : (a b c d e f g h i j k : List ℕ)
+    → a ++ (b ++ (c ++ (d ++ (e ++ (f ++ (g ++ (h ++ (i ++ (j ++ k))))))))) ≡ a ++ b ++ c ++ d ++ e ++ f ++ g ++ h ++ i ++ j ++ k
+eleven_pieces a b c d e f g h i j k =
+    seven_pieces a b c d e f (g ++ (h ++ (i ++ (j ++ k)))) ∙ five_pieces (a ++ b ++ c ++ d ++ e ++ f) g h i (j ++ k)
+    ∙ sym (append_assoc (a ++ b ++ c ++ d ++ e ++ f ++ g ++ h ++ i) j k)
+
+pub twelve_pieces : (a b c d e f g h i j k l : List ℕ)
+    → a ++ (b ++ (c ++ (d ++ (e ++ (f ++ (g ++ (h ++ (i ++ (j ++ (k ++ l)))))))))) ≡ a ++ b ++ c ++ d ++ e ++ f ++ g ++ h ++ i ++ j ++ k ++ l
+twelve_pieces a b c d e f g h i j k l =
+    nine_pieces a b c d e f g h (i ++ (j ++ (k ++ l))) ∙ five_pieces (a ++ b ++ c ++ d ++ e ++ f ++ g ++ h) i j k l
 
 -- the texts of the refusals that name domains, made of their pieces
 pub overlap_text : (document : Option Document) (refusal : Refusal) (one other : NodeId) (p : Place) (first second place made : List ℕ)

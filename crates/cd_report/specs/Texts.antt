@@ -1,5 +1,5 @@
--- The texts that a program writes, as lists of bytes: the report of a run, refusals, and two lines of their own.
-use Rattle.std.specs.Prelude.{◌≡◌, ℕ, ◌+◌, ◌*◌, ◌<◌, nat_le, List, [], ◌∷◌, ◌++◌, Option, None, Some, length, map, sum, slice_get, All, if◌then◌else◌, codes, decimal}
+-- The texts that a program writes, as lists of bytes: reports, refusals, and lines of their own.
+use Rattle.std.specs.Prelude.{◌≡◌, ℕ, ◌+◌, ◌*◌, ◌<◌, nat_le, List, [], ◌∷◌, ◌++◌, Option, None, Some, length, map, sum, sum_by, slice_get, if◌then◌else◌, codes, decimal}
 use Rattle.std.specs.List.{join_by, flat_map, range_with_len, last_or}
 use Rattle.std.specs.Option.{option_map_or}
 use Rattle.cd_base.specs.declared.place.Place.{Place}
@@ -97,20 +97,15 @@ abbrev pub report_text : Outline → List Region → Words → List ℕ → Opti
 report_text tree regions words begins cause =
     outcome_line tree cause ++ region_lines words 0 regions ++ begins_lines tree.domains 0 begins ++ total_line begins
 
+-- what the reading gives: what becomes of the run, and how often each domain begins
+abbrev pub reading_text : Outline → List ℕ → Option Cause → List ℕ
+reading_text tree begins cause = outcome_line tree cause ++ begins_lines tree.domains 0 begins ++ total_line begins
+
 -- each place of each region is present in the machine
 abbrev pub AllPresent : Machine → List Region → Type 0
 AllPresent m regions =
     (k i : ℕ) (region : Region) → slice_get regions k ≡ Some region → i < region.length
     → IsPresent m (record { region = k; index = i })
-
--- each of these domains is one of a number of domains
-abbrev pub AreWithin : ℕ → List NodeId → Type 0
-AreWithin count ids = All (λ (id : NodeId). id.0 < count) ids
-
--- a cause that names domains of this program, at least one
-abbrev pub FitsCause : Outline → Option Cause → Type 0
-FitsCause tree None = Unit {0}
-FitsCause tree (Some cause) = (0 < length cause.path) × AreWithin (length tree.domains) cause.path
 
 -- the name of a limit
 abbrev pub which_text : Which → List ℕ
@@ -130,16 +125,20 @@ which_text which.Retry = codes "retry"
 which_text which.Faults = codes "faults"
 which_text which.Need = codes "need"
 
--- the path of a domain of a document, where there is one
+-- the path of a domain of a document, where there is one; a domain that is not there has the empty path
 abbrev pub path_in : Option Document → NodeId → List ℕ
 path_in None id = []
 path_in (Some document) id = path_text_of document.tree.domains id
 
--- a place by its region's name in a document, where there is one, and its index
+-- a place by its region's name and its index; a region that is not there has no name
+abbrev pub place_text : List Region → Place → List ℕ
+place_text regions p =
+    option_map_or (λ region. region.name) (slice_get regions p.region) [] ++ codes "[" ++ decimal p.index ++ codes "]"
+
+-- a place of a document, where there is one
 abbrev pub place_in : Option Document → Place → List ℕ
 place_in None p = []
-place_in (Some document) p =
-    option_map_or (λ region. region.name) (slice_get document.regions p.region) [] ++ codes "[" ++ decimal p.index ++ codes "]"
+place_in (Some document) p = place_text document.regions p
 
 -- what a refusal says; only where it names domains or places, of the document
 abbrev pub refusal_text : Option Document → Refusal → List ℕ
@@ -166,23 +165,25 @@ refusal_text document (Undetected k) = codes "E16 fault " ++ decimal k
 abbrev pub refusal_line : Option Document → Refusal → List ℕ
 refusal_line document refusal = line (codes "refused " ++ refusal_text document refusal)
 
--- a document is there, and has this domain
-abbrev pub HasDomain : Option Document → NodeId → Type 0
-HasDomain None id = ⊥
-HasDomain (Some document) id = id.0 < length document.tree.domains
+-- the items of some domains, of which a group is one
+abbrev pub item_count : List Domain → ℕ
+item_count domains = sum_by (λ (domain : Domain). length domain.items) domains
 
--- a document is there, and has a region with this number
-abbrev pub HasRegion : Option Document → ℕ → Type 0
-HasRegion None number = ⊥
-HasRegion (Some document) number = number < length document.regions
+-- the entries of some domains
+abbrev pub entry_count : List Domain → ℕ
+entry_count domains = sum_by (λ (domain : Domain). length domain.entries) domains
 
--- the domains and the region that a refusal names are those of the document; where it names any, the document is there
-abbrev pub CanBeNamed : Option Document → Refusal → Type 0
-CanBeNamed document (Overlap one other p) = HasDomain document one × HasDomain document other × HasRegion document p.region
-CanBeNamed document (Uncovered id p) = HasDomain document id × HasRegion document p.region
-CanBeNamed document (NoTarget id k) = HasDomain document id
-CanBeNamed document (Stale id k p) = HasDomain document id × HasRegion document p.region
-CanBeNamed document _ = Unit {0}
+-- the words of some regions
+abbrev pub word_count : List Region → ℕ
+word_count regions = sum_by (λ (region : Region). region.length) regions
+
+-- how large an accepted document is, and how many blocks it needs
+abbrev pub accepted_line : Document → ℕ → List ℕ
+accepted_line document need =
+    line
+    (codes "# accepted domains " ++ decimal (length document.tree.domains) ++ codes " items " ++ decimal (item_count document.tree.domains)
+    ++ codes " entries " ++ decimal (entry_count document.tree.domains) ++ codes " words " ++ decimal (word_count document.regions)
+    ++ codes " need " ++ decimal need ++ codes " faults " ++ decimal (length document.faults))
 
 -- the line for a command line that gives no command
 abbrev pub usage_line : List ℕ
@@ -191,3 +192,7 @@ usage_line = line (codes "usage: cd check|read|run|make|lift [--workers N] [--re
 -- the line where the source could not be read
 abbrev pub fault_line : List ℕ
 fault_line = line (codes "read fault")
+
+-- the line where what is asked for is not there yet
+abbrev pub not_built_line : List ℕ
+not_built_line = line (codes "not built yet")

@@ -13,8 +13,7 @@ pub fn add_begins(
     count: u32,
     text: &mut String,
 ) -> Result<(), AllocError>
-    requires domains { length tree.now.domains ≡ count }
-    requires counts { length begins.now ≡ count }
+    requires { length begins.now ≡ count }
     ensures { OnOk result (string_bytes text.new ≡ string_bytes text.old ++ begins_lines tree.now.domains 0 begins.now) }
 {
     for k in 0..count {
@@ -31,7 +30,6 @@ fn add_begins_line(
     number: u64,
     text: &mut String,
 ) -> Result<(), AllocError>
-    requires { node.0 < length tree.now.domains }
     ensures { OnOk result (string_bytes text.new ≡ string_bytes text.old ++ begins_line tree.now.domains node.0 number) }
 {
     text.push_str("begins ")?;

@@ -1,12 +1,14 @@
 ghost use Rattle.std.specs.Prelude.{◌≤◌};
 ghost use Rattle.cd_base.specs.Ends.{WriteAll};
-ghost use Rattle.cd_report.specs.Texts.{usage_line, fault_line};
+ghost use Rattle.cd_report.specs.Texts.{usage_line, fault_line, not_built_line};
 
 use cd_base::{Sink, WriteStop, write_all};
 
 const USAGE: &str = "usage: cd check|read|run|make|lift [--workers N] [--record] [--size N]\n";
 
 const READ_FAULT: &str = "read fault\n";
+
+const NOT_BUILT: &str = "not built yet\n";
 
 /// Writes how the program is called. It takes no memory of its own.
 pub fn write_usage<K: Sink>(sink: &mut K) -> Result<(), WriteStop>
@@ -22,4 +24,12 @@ pub fn write_read_fault<K: Sink>(sink: &mut K) -> Result<(), WriteStop>
     ensures count { K.faults sink.old ≤ K.faults sink.new }
 {
     write_all(sink, READ_FAULT.as_bytes())
+}
+
+/// Writes that what is asked for is not there yet. It takes no memory of its own.
+pub fn write_not_built<K: Sink>(sink: &mut K) -> Result<(), WriteStop>
+    ensures meets { WriteAll (K.holds sink.old) (K.holds sink.new) (K.faults sink.old) (K.faults sink.new) not_built_line result }
+    ensures count { K.faults sink.old ≤ K.faults sink.new }
+{
+    write_all(sink, NOT_BUILT.as_bytes())
 }

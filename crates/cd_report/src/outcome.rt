@@ -1,9 +1,9 @@
-ghost use Rattle.std.specs.Prelude.{◌≡◌, ◌<◌, ◌≤◌, ◌++◌, ◌∷◌, length, None, Some, OnOk, string_bytes, if◌then◌else◌};
+ghost use Rattle.std.specs.Prelude.{◌≡◌, ◌≤◌, ◌++◌, ◌∷◌, length, None, Some, OnOk, IfOk, string_bytes, if◌then◌else◌};
 ghost use Rattle.std.specs.List.{last_or};
 ghost use Rattle.std.specs.Option.{option_copied};
 ghost use Rattle.cd_tree.specs.Outlines.{IsTree};
 ghost use Rattle.cd_tree.specs.Paths.{path_text_of};
-ghost use Rattle.cd_report.specs.Texts.{outcome_line, kinds_text, FitsCause, AreWithin};
+ghost use Rattle.cd_report.specs.Texts.{outcome_line, end_text, kinds_text};
 
 use cd_tree::{Cause, Kind, KindName, Kinds, NodeId, Tree, path_text};
 use std::alloc::{AllocError, Global};
@@ -15,8 +15,7 @@ pub fn add_outcome(
     cause: Option<&Cause>,
     text: &mut String,
 ) -> Result<(), AllocError>
-    requires tree { IsTree tree.now }
-    requires cause { FitsCause tree.now (option_copied cause) }
+    requires { IsTree tree.now }
     ensures { OnOk result (string_bytes text.new ≡ string_bytes text.old ++ outcome_line tree.now (option_copied cause.entry)) }
 {
     match cause {
@@ -32,41 +31,57 @@ fn add_exhausted(
     cause: &Cause,
     text: &mut String,
 ) -> Result<(), AllocError>
-    requires tree { IsTree tree.now }
-    requires some { 0 < length cause.now.path }
-    requires nodes { AreWithin (length tree.now.domains) cause.now.path }
+    requires { IsTree tree.now }
     ensures { OnOk result (string_bytes text.new ≡ string_bytes text.old ++ outcome_line tree.now (Some cause.now)) }
 {
     text.push_str("exhausted ")?;
-    add_path(alloc, tree, last_domain(cause), text)?;
+    add_last(alloc, tree, cause.path.items(), text)?;
     text.push_str(" ")?;
     add_kinds(tree.kinds(), cause.kinds, text)?;
     text.push_str("\n")
 }
 
-/// The last domain of a cause's path. It takes no memory.
-fn last_domain(cause: &Cause) -> NodeId
-    requires { 0 < length cause.now.path }
-    ensures { last_or None cause.now.path ≡ Some result }
+/// Puts the path of the last of some domains behind a text, or nothing where there is none.
+fn add_last(
+    alloc: Global,
+    tree: &Tree,
+    nodes: &[NodeId],
+    text: &mut String,
+) -> Result<(), AllocError>
+    ensures { OnOk result (string_bytes text.new ≡ string_bytes text.old ++ end_text tree.now.domains (last_or None nodes.now)) }
 {
-    let path = cause.path.items();
-    path[path.len() - 1]
+    match nodes.last() {
+        None => Ok(()),
+        Some(node) => add_path(alloc, tree, *node, text),
+    }
 }
 
-/// Puts the path of a domain behind a text.
+/// Puts the path of a domain behind a text, or nothing where there is no such domain.
 pub fn add_path(
     alloc: Global,
     tree: &Tree,
     node: NodeId,
     text: &mut String,
 ) -> Result<(), AllocError>
-    requires { node.0 < length tree.now.domains }
     ensures { OnOk result (string_bytes text.new ≡ string_bytes text.old ++ path_text_of tree.now.domains node) }
 {
+    if node.0 >= tree.count() {
+        return Ok(());
+    }
     match path_text(alloc, tree, node) {
         Ok(path) => text.push_str(path.as_str()),
         Err(_) => Err(AllocError),
     }
+}
+
+/// The names of the kinds of a set, joined by commas, or `none`.
+pub fn kinds_text(alloc: Global, names: &[KindName], kinds: Kinds) -> Result<String, AllocError>
+    requires { length names.now ≤ 16 }
+    ensures { IfOk result (λ text. string_bytes text ≡ kinds_text names.now kinds) }
+{
+    let mut text = String::new(alloc);
+    add_kinds(names, kinds, &mut text)?;
+    Ok(text)
 }
 
 /// Puts the names of the kinds of a set behind a text, joined by commas, or `none`.

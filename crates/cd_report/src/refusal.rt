@@ -1,21 +1,21 @@
 ghost use Rattle.std.specs.Prelude.{◌≡◌, ◌≤◌, IfOk, string_bytes};
 ghost use Rattle.std.specs.Option.{option_copied};
 ghost use Rattle.cd_base.specs.Ends.{WriteAll};
-ghost use Rattle.cd_report.specs.Texts.{refusal_text, refusal_line, path_in, place_in, which_text, CanBeNamed, HasDomain, HasRegion};
+ghost use Rattle.cd_report.specs.Texts.{refusal_text, refusal_line, path_in, place_in, which_text};
 
 use crate::outcome::add_path;
+use crate::places::place_text;
 use cd_base::{Place, Sink, WriteStop, write_all};
 use cd_tree::{Document, NodeId, Refusal, Which};
 use std::alloc::{AllocError, Global};
 
-/// Writes the line of a refusal. One that names domains or places names those of the document.
+/// Writes the line of a refusal. Domains and regions that it names are those of the document; what is not there has no name.
 pub fn write_refusal<K: Sink>(
     alloc: Global,
     document: Option<&Document>,
     refusal: &Refusal,
     sink: &mut K,
 ) -> Result<(), WriteStop>
-    requires named { CanBeNamed (option_copied document) refusal.now }
     ensures meets { WriteAll (K.holds sink.old) (K.holds sink.new) (K.faults sink.old) (K.faults sink.new) (refusal_line (option_copied document.entry) refusal.now) result }
     ensures count { K.faults sink.old ≤ K.faults sink.new }
 {
@@ -31,7 +31,6 @@ fn refusal_line(
     document: Option<&Document>,
     refusal: &Refusal,
 ) -> Result<String, AllocError>
-    requires { CanBeNamed (option_copied document) refusal.now }
     ensures { IfOk result (λ text. string_bytes text ≡ refusal_line (option_copied document.entry) refusal.now) }
 {
     format!(in alloc; "refused {}\n", refusal_text(alloc, document, refusal)?)
@@ -43,7 +42,6 @@ fn refusal_text(
     document: Option<&Document>,
     refusal: &Refusal,
 ) -> Result<String, AllocError>
-    requires { CanBeNamed (option_copied document) refusal.now }
     ensures { IfOk result (λ text. string_bytes text ≡ refusal_text (option_copied document.entry) refusal.now) }
 {
     match *refusal {
@@ -82,32 +80,24 @@ fn refusal_text(
     }
 }
 
-/// The path of a domain of a document.
+/// The path of a domain of a document, where there is one.
 fn path_in(alloc: Global, document: Option<&Document>, node: NodeId) -> Result<String, AllocError>
-    requires { HasDomain (option_copied document) node }
     ensures { IfOk result (λ text. string_bytes text ≡ path_in (option_copied document.entry) node) }
 {
-    match document {
-        None => unreachable!(),
-        Some(document) => {
-            let mut text = String::new(alloc);
-            add_path(alloc, &document.tree, node, &mut text)?;
-            Ok(text)
-        }
+    let mut text = String::new(alloc);
+    if let Some(document) = document {
+        add_path(alloc, &document.tree, node, &mut text)?;
     }
+    Ok(text)
 }
 
-/// The name of a place's region in a document, and the place's index.
+/// A place of a document, where there is one.
 fn place_in(alloc: Global, document: Option<&Document>, place: Place) -> Result<String, AllocError>
-    requires { HasRegion (option_copied document) place.region }
     ensures { IfOk result (λ text. string_bytes text ≡ place_in (option_copied document.entry) place) }
 {
     match document {
-        None => unreachable!(),
-        Some(document) => {
-            let region = &document.regions.items()[place.region as usize];
-            format!(in alloc; "{}[{}]", region.name.as_str(), place.index)
-        }
+        None => Ok(String::new(alloc)),
+        Some(document) => place_text(alloc, document.regions.items(), place),
     }
 }
 

@@ -1,18 +1,20 @@
 ghost use Rattle.std.specs.Prelude.{◌≡◌, ◌<◌, ◌≤◌, ◌^◌, length, sum, IfOk, string_bytes};
 ghost use Rattle.std.specs.Option.{option_copied};
 ghost use Rattle.cd_base.specs.Ends.{WriteAll};
-ghost use Rattle.cd_report.specs.Texts.{report_text, AllPresent, FitsCause};
+ghost use Rattle.cd_report.specs.Texts.{report_text, reading_text, AllPresent};
+ghost use Rattle.cd_report.specs.Records.{run_text};
 
 use crate::begins::{add_begins, total_of};
 use crate::outcome::add_outcome;
+use crate::record::write_record;
 use crate::regions::add_regions;
 use cd_base::{Sink, WriteStop, write_all};
 use cd_field::Field;
 use cd_tree::{Begins, Cause, Regions, Tree};
 use std::alloc::{AllocError, Global};
 
-/// Writes the report of a run, without its record: what became of it, the regions' words, and how often each domain
-/// began.
+/// Writes the report of a run: what became of it, the regions' words, how often each domain began, and with the record
+/// each of its events. The record's text is made in pieces, and never stands whole in memory.
 pub fn write_run<F: Field, K: Sink>(
     alloc: Global,
     tree: &Tree,
@@ -20,16 +22,41 @@ pub fn write_run<F: Field, K: Sink>(
     machine: &F,
     begins: &Begins,
     cause: Option<&Cause>,
+    with_record: bool,
     sink: &mut K,
 ) -> Result<(), WriteStop>
     requires present { AllPresent (F.state machine.now) regions.now }
     requires counts { length begins.now ≡ length tree.now.domains }
     requires total { sum begins.now < 2 ^ 64 }
-    requires cause { FitsCause tree.now (option_copied cause) }
-    ensures meets { WriteAll (K.holds sink.old) (K.holds sink.new) (K.faults sink.old) (K.faults sink.new) (report_text tree.now regions.now (F.state machine.now).words begins.now (option_copied cause.entry)) result }
+    ensures meets { WriteAll (K.holds sink.old) (K.holds sink.new) (K.faults sink.old) (K.faults sink.new) (run_text with_record tree.now regions.now (F.state machine.now).words (F.state machine.now).events begins.now (option_copied cause.entry)) result }
     ensures count { K.faults sink.old ≤ K.faults sink.new }
 {
-    match report(alloc, tree, regions, machine, begins, cause) {
+    let Ok(text) = report(alloc, tree, regions, machine, begins, cause) else {
+        return Err(WriteStop::NoMemory);
+    };
+    write_all(sink, text.as_bytes())?;
+    if !with_record {
+        return Ok(());
+    }
+    let count = tree.count();
+    prove!(0 < count);
+    write_record(alloc, tree.kinds(), regions.items(), machine, sink)
+}
+
+/// Writes what the reading gives: what becomes of the run, and how often each domain begins.
+pub fn write_reading<K: Sink>(
+    alloc: Global,
+    tree: &Tree,
+    begins: &Begins,
+    cause: Option<&Cause>,
+    sink: &mut K,
+) -> Result<(), WriteStop>
+    requires counts { length begins.now ≡ length tree.now.domains }
+    requires total { sum begins.now < 2 ^ 64 }
+    ensures meets { WriteAll (K.holds sink.old) (K.holds sink.new) (K.faults sink.old) (K.faults sink.new) (reading_text tree.now begins.now (option_copied cause.entry)) result }
+    ensures count { K.faults sink.old ≤ K.faults sink.new }
+{
+    match reading(alloc, tree, begins, cause) {
         Ok(text) => write_all(sink, text.as_bytes()),
         Err(_) => Err(WriteStop::NoMemory),
     }
@@ -47,13 +74,31 @@ fn report<F: Field>(
     requires present { AllPresent (F.state machine.now) regions.now }
     requires counts { length begins.now ≡ length tree.now.domains }
     requires total { sum begins.now < 2 ^ 64 }
-    requires cause { FitsCause tree.now (option_copied cause) }
     ensures { IfOk result (λ text. string_bytes text ≡ report_text tree.now regions.now (F.state machine.now).words begins.now (option_copied cause.entry)) }
 {
     let count = tree.count();
     let mut text = String::new(alloc);
     add_outcome(alloc, tree, cause, &mut text)?;
     add_regions(alloc, regions.items(), machine, &mut text)?;
+    add_begins(alloc, tree, begins, count, &mut text)?;
+    text.push_str(&format!(in alloc; "total {}\n", total_of(begins, count))?)?;
+    Ok(text)
+}
+
+/// What the reading gives.
+fn reading(
+    alloc: Global,
+    tree: &Tree,
+    begins: &Begins,
+    cause: Option<&Cause>,
+) -> Result<String, AllocError>
+    requires counts { length begins.now ≡ length tree.now.domains }
+    requires total { sum begins.now < 2 ^ 64 }
+    ensures { IfOk result (λ text. string_bytes text ≡ reading_text tree.now begins.now (option_copied cause.entry)) }
+{
+    let count = tree.count();
+    let mut text = String::new(alloc);
+    add_outcome(alloc, tree, cause, &mut text)?;
     add_begins(alloc, tree, begins, count, &mut text)?;
     text.push_str(&format!(in alloc; "total {}\n", total_of(begins, count))?)?;
     Ok(text)

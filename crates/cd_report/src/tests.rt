@@ -1,15 +1,10 @@
-ghost use Rattle.std.specs.Prelude.{None};
-ghost use Rattle.cd_report.specs.Texts.{CanBeNamed};
-
 use crate::{write_read_fault, write_refusal, write_usage};
 use cd_base::{MemorySink, WriteStop};
 use cd_tree::{Refusal, Which};
 use std::test::Fail;
 
 /// The refusal with a number, of those that name no domain and no limit.
-fn refusal_of(number: u32, count: u32) -> Refusal
-    ensures { CanBeNamed None result }
-{
+fn refusal_of(number: u32, count: u32) -> Refusal {
     match number {
         2 => Refusal::Line(count),
         3 => Refusal::UnknownRegion(count),

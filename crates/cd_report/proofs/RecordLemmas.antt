@@ -1,0 +1,290 @@
+-- Lemmas on the lines of a record, and on a text that is written piece by piece.
+use Rattle.std.proofs.Common.{◌≡◌, ℕ, zero, suc, ◌+◌, ◌-◌, ◌<◌, ◌≤◌, true, false, inl, inr, List, [], ◌∷◌, ◌++◌, Option, None, Some, is_some, Ok, Err, length, take, drop, slice_get, codes, refl, sym, ap, ◌∙◌, subst, arith, append_assoc, length-append, length-take, length-drop}
+use Rattle.std.proofs.Math.Seq.{take-append-add}
+use Rattle.std.proofs.lemmas.List.{append-nil, drop_more, drop_all, drop-drop, take-append-drop, take-append-le}
+use Rattle.std.proofs.lemmas.Grind.{flat_map-append}
+use Rattle.std.proofs.lemmas.Option.{slice_get_within, get_or_from_slice_get, slice_get_past, none-some}
+use Rattle.std.proofs.KnownBytes.{Appends-trans}
+use Rattle.std.specs.Io.KnownBytes.{Appends}
+use Rattle.std.specs.Fmt.{decimal}
+use Rattle.std.specs.List.{flat_map}
+use Rattle.std.specs.Prelude.{Result, IsErr, IsErrAnd}
+use Rattle.std.proofs.lemmas.Bool.{cases_lt, false≢true}
+use Rattle.cd_base.specs.declared.place.Place.{Place}
+use Rattle.cd_base.specs.declared.sink.WriteStop.{WriteStop}
+use Rattle.cd_base.specs.declared.sink.WriteStop.TheVariants as write
+use Rattle.cd_base.specs.Ends.{Rose, AppendsFront, WriteAll}
+use Rattle.cd_base.proofs.EndLemmas.{Rose-before}
+use Rattle.cd_tree.specs.declared.domain.NodeId.{NodeId}
+use Rattle.cd_tree.specs.declared.document.Region.{Region}
+use Rattle.cd_tree.specs.declared.kinds.KindName.{KindName}
+use Rattle.cd_tree.specs.declared.event.Kept.{Kept}
+use Rattle.cd_tree.specs.declared.event.Event.{Event}
+use Rattle.cd_tree.specs.declared.event.Event.TheVariants.{Begin, Saved, Fell, Lapsed, Refilled, Reached, Halted, Found, Complete, Escalate}
+use Rattle.cd_report.specs.Texts.{line, place_text, kinds_text}
+use Rattle.cd_report.specs.Records.{kept_text, event_line, events_text}
+use Rattle.cd_report.proofs.TextLemmas.{next_piece, five_pieces, seven_pieces, nine_pieces, eleven_pieces}
+
+-- the lines of the events, made of their pieces
+pub two_parts : (kinds : List KindName) (regions : List Region) (event : Event) (word first second made : List ℕ)
+    → event_line kinds regions event ≡ line (word ++ first ++ codes " " ++ second)
+    → made ≡ word ++ (first ++ (codes " " ++ (second ++ codes "\n"))) → made ≡ event_line kinds regions event
+two_parts kinds regions event word first second made is e = e ∙ five_pieces word first (codes " ") second (codes "\n") ∙ sym is
+
+pub kinds_part : (kinds : List KindName) (regions : List Region) (event : Event) (word first second : List ℕ) (found : ℕ) (made : List ℕ)
+    → event_line kinds regions event ≡ line (word ++ first ++ codes " " ++ kinds_text kinds found) → second ≡ kinds_text kinds found
+    → made ≡ word ++ (first ++ (codes " " ++ (second ++ codes "\n"))) → made ≡ event_line kinds regions event
+kinds_part kinds regions event word first second found made is k e =
+    two_parts kinds regions event word first second made (is ∙ ap (λ (t : List ℕ). line (word ++ first ++ codes " " ++ t)) (sym k)) e
+
+pub saved_line : (kinds : List KindName) (regions : List Region) (event : Event) (node : NodeId) (entry : ℕ) (how : Kept) (word made : List ℕ)
+    → event ≡ Saved node entry how → word ≡ kept_text how
+    → made ≡ codes "saved " ++ (decimal node.0 ++ (codes " " ++ (decimal entry ++ (codes " " ++ (word ++ codes "\n")))))
+    → made ≡ event_line kinds regions event
+saved_line kinds regions event node entry how word made is w e =
+    e ∙ seven_pieces (codes "saved ") (decimal node.0) (codes " ") (decimal entry) (codes " ") word (codes "\n")
+    ∙ ap (λ (t : List ℕ). line (codes "saved " ++ decimal node.0 ++ codes " " ++ decimal entry ++ codes " " ++ t)) w
+    ∙ ap (event_line kinds regions) (sym is)
+
+pub fell_line : (kinds : List KindName) (regions : List Region) (event : Event) (node : NodeId) (entry : ℕ) (p : Place) (wanted found : ℕ) (place made : List ℕ)
+    → event ≡ Fell node entry p wanted found → place ≡ place_text regions p
+    → made ≡ codes "fell " ++ (decimal node.0 ++ (codes " " ++ (decimal entry ++ (codes " " ++ (place ++ (codes " wanted " ++ (decimal wanted ++ (codes " found " ++ (decimal found ++ codes "\n")))))))))
+    → made ≡ event_line kinds regions event
+fell_line kinds regions event node entry p wanted found place made is w e =
+    e
+    ∙ eleven_pieces (codes "fell ") (decimal node.0) (codes " ") (decimal entry) (codes " ") place (codes " wanted ") (decimal wanted) (codes " found ") (decimal found) (codes "\n")
+    ∙ ap (λ (t : List ℕ). line (codes "fell " ++ decimal node.0 ++ codes " " ++ decimal entry ++ codes " " ++ t ++ codes " wanted " ++ decimal wanted ++ codes " found " ++ decimal found)) w
+    ∙ ap (event_line kinds regions) (sym is)
+
+pub lapsed_line : (kinds : List KindName) (regions : List Region) (event : Event) (node : NodeId) (entry seen found : ℕ) (made : List ℕ)
+    → event ≡ Lapsed node entry seen found
+    → made ≡ codes "lapsed " ++ (decimal node.0 ++ (codes " " ++ (decimal entry ++ (codes " seen " ++ (decimal seen ++ (codes " found " ++ (decimal found ++ codes "\n")))))))
+    → made ≡ event_line kinds regions event
+lapsed_line kinds regions event node entry seen found made is e =
+    e
+    ∙ nine_pieces (codes "lapsed ") (decimal node.0) (codes " ") (decimal entry) (codes " seen ") (decimal seen) (codes " found ") (decimal found) (codes "\n")
+    ∙ ap (event_line kinds regions) (sym is)
+
+take_none : (n : ℕ) → take {A = Event} n [] ≡ []
+take_none zero = refl
+take_none (suc n) = refl
+
+get_past : (events : List Event) (k : ℕ) → slice_get events k ≡ None → length events ≤ k
+get_past [] k e = omega arith
+get_past (event ∷ events) zero e = absurd (none-some event (sym e))
+get_past (event ∷ events) (suc k) e = omega (arith, get_past events k e)
+
+-- the events from one on, up to below another
+pub events_next : (events : List Event) (k to : ℕ) (event : Event) → slice_get events k ≡ Some event → k < to
+    → take (to - k) (drop k events) ≡ event ∷ take (to - (k + 1)) (drop (k + 1) events)
+events_next events k to event e h =
+    let n : to - k ≡ suc (to - (k + 1)) = omega arith in
+    let here : drop k events ≡ event ∷ drop (k + 1) events =
+    drop_more events k event (slice_get_within events k event e)
+    ∙ ap (λ (it : Event). it ∷ drop (k + 1) events) (get_or_from_slice_get events k event event e) in
+    ap (λ (m : ℕ). take m (drop k events)) n ∙ ap (take (suc (to - (k + 1)))) here
+
+-- where there is no event with a number, there is none from it on
+pub events_end : (events : List Event) (k : ℕ) → None ≡ slice_get events k → drop k events ≡ []
+events_end events k e = drop_all k events (get_past events k (sym e))
+
+pub events_past : (events : List Event) (k n : ℕ) → None ≡ slice_get events k → take n (drop k events) ≡ []
+events_past events k n e = ap (take n) (events_end events k e) ∙ take_none n
+
+none_there : (o : Option Event) → false ≡ is_some o → None ≡ o
+none_there None e = refl
+none_there (Some event) e = absurd (false≢true e)
+
+some_there : (o : Option Event) → true ≡ is_some o → o ≡ None → ⊥
+some_there o e n = false≢true (ap is_some (sym n) ∙ sym e)
+
+-- what the test for an event with a number tells
+pub test_end : (events : List Event) (k : ℕ) (there : Option Event) → there ≡ slice_get events k → false ≡ is_some there → drop k events ≡ []
+test_end events k there h e = events_end events k (none_there there e ∙ h)
+
+pub test_within : (events : List Event) (k : ℕ) (there : Option Event) → there ≡ slice_get events k → true ≡ is_some there → k < length events
+test_within events k there h e =
+    elim (cases_lt k (length events)) as (λ _. k < length events)
+    [ inl p ↦ p | inr p ↦ absurd (some_there there e (h ∙ slice_get_past events k p)) ]
+
+-- the lines of some events and of those behind them
+pub events_split : (kinds : List KindName) (regions : List Region) (events : List Event) (k n : ℕ)
+    → events_text kinds regions (drop k events)
+    ≡ events_text kinds regions (take n (drop k events)) ++ events_text kinds regions (drop (k + n) events)
+events_split kinds regions events k n =
+    ap (events_text kinds regions) (sym (take-append-drop n (drop k events)))
+    ∙ flat_map-append (event_line kinds regions) (take n (drop k events)) (drop n (drop k events))
+    ∙ ap (λ (rest : List Event). events_text kinds regions (take n (drop k events)) ++ events_text kinds regions rest) (drop-drop n k events)
+
+-- a text with the line of one event more
+pub event_written : (kinds : List KindName) (regions : List Region) (events : List Event) (k to : ℕ) (event : Event) (text next piece shown whole : List ℕ)
+    → Some event ≡ slice_get events k → k < to → text ++ events_text kinds regions (take (to - k) (drop k events)) ≡ whole
+    → piece ≡ event_line kinds regions event → shown ≡ piece → next ≡ text ++ shown
+    → next ++ events_text kinds regions (take (to - (k + 1)) (drop (k + 1) events)) ≡ whole
+event_written kinds regions events k to event text next piece shown whole e h i p d n =
+    next_piece whole text next (event_line kinds regions event) (events_text kinds regions (take (to - (k + 1)) (drop (k + 1) events)))
+    (events_text kinds regions (take (to - k) (drop k events))) i (n ∙ ap (λ (t : List ℕ). text ++ t) (d ∙ p))
+    (ap (events_text kinds regions) (events_next events k to event (sym e) h))
+
+-- a text to which all events were written
+pub events_written : (kinds : List KindName) (regions : List Region) (events : List Event) (k n : ℕ) (text whole : List ℕ)
+    → take n (drop k events) ≡ [] → text ++ events_text kinds regions (take n (drop k events)) ≡ whole → text ≡ whole
+events_written kinds regions events k n text whole e i =
+    sym (append-nil text) ∙ ap (λ (rest : List Event). text ++ events_text kinds regions rest) (sym e) ∙ i
+
+-- a line has at least its line feed
+line_some : (text : List ℕ) → 0 < length (line text)
+line_some text = omega (arith, length-append text (10 ∷ []))
+
+event_some : (kinds : List KindName) (regions : List Region) (event : Event) → 0 < length (event_line kinds regions event)
+event_some kinds regions (Begin node number) = line_some (codes "begin " ++ decimal node.0 ++ codes " " ++ decimal number)
+event_some kinds regions (Saved node entry how) =
+    line_some (codes "saved " ++ decimal node.0 ++ codes " " ++ decimal entry ++ codes " " ++ kept_text how)
+event_some kinds regions (Fell node entry place wanted found) =
+    line_some
+    (codes "fell " ++ decimal node.0 ++ codes " " ++ decimal entry ++ codes " " ++ place_text regions place ++ codes " wanted "
+    ++ decimal wanted ++ codes " found " ++ decimal found)
+event_some kinds regions (Lapsed node entry seen found) =
+    line_some (codes "lapsed " ++ decimal node.0 ++ codes " " ++ decimal entry ++ codes " seen " ++ decimal seen ++ codes " found " ++ decimal found)
+event_some kinds regions (Refilled node entry) = line_some (codes "refilled " ++ decimal node.0 ++ codes " " ++ decimal entry)
+event_some kinds regions (Reached node point) = line_some (codes "reached " ++ decimal node.0 ++ codes " " ++ decimal point)
+event_some kinds regions (Halted node found) = line_some (codes "halted " ++ decimal node.0 ++ codes " " ++ kinds_text kinds found)
+event_some kinds regions (Found node found) = line_some (codes "found " ++ decimal node.0 ++ codes " " ++ kinds_text kinds found)
+event_some kinds regions (Complete node) = line_some (codes "complete " ++ decimal node.0)
+event_some kinds regions (Escalate node) = line_some (codes "escalate " ++ decimal node.0)
+
+text_some : (kinds : List KindName) (regions : List Region) (events : List Event) → 0 < length events → 0 < length (events_text kinds regions events)
+text_some kinds regions [] h = absurd (omega (arith, h))
+text_some kinds regions (event ∷ events) h =
+    omega (arith, length-append (event_line kinds regions event) (events_text kinds regions events), event_some kinds regions event)
+
+-- where there are events from one on, they have a text
+pub rest_some : (kinds : List KindName) (regions : List Region) (events : List Event) (k : ℕ) → k < length events
+    → 0 < length (events_text kinds regions (drop k events))
+rest_some kinds regions events k h = text_some kinds regions (drop k events) (omega (arith, length-drop k events, h))
+
+pub piece_some : (kinds : List KindName) (regions : List Region) (events : List Event) (k n : ℕ) → k < length events → 0 < n
+    → 0 < length (events_text kinds regions (take n (drop k events)))
+piece_some kinds regions events k n h p =
+    text_some kinds regions (take n (drop k events)) (omega (arith, length-take n (drop k events), length-drop k events, h, p))
+
+-- what was written of a whole text before now, and what is left of it; the count of faults did not fall
+pub record WroteSome (old now : Option (List ℕ)) (before after : ℕ) (rest whole : List ℕ) : Type 0 where
+  pub done : List ℕ
+  pub grew : Appends old now done
+  pub split : done ++ rest ≡ whole
+  pub count : before ≤ after
+
+appends_none : (old : Option (List ℕ)) → Appends old old []
+appends_none None = tt
+appends_none (Some bytes) = sym (append-nil bytes)
+
+-- at first nothing was written
+pub wrote_none : (old : Option (List ℕ)) (faults : ℕ) (whole : List ℕ) → WroteSome old old faults faults whole whole
+wrote_none old faults whole = record { done = []; grew = appends_none old; split = refl; count = omega arith }
+
+-- then the next piece was written
+pub wrote_next : (old now new : Option (List ℕ)) (before at after : ℕ) (piece rest whole : List ℕ)
+    → WroteSome old now before at (piece ++ rest) whole → Appends now new piece → at ≤ after → WroteSome old new before after rest whole
+wrote_next old now new before at after piece rest whole w a h = record {
+  done = w.done ++ piece;
+  grew = Appends-trans old now new w.done piece w.grew a;
+  split = append_assoc w.done piece rest ∙ w.split;
+  count = omega (arith, w.count);
+}
+
+-- at last nothing is left
+pub wrote_all : (old now : Option (List ℕ)) (before at : ℕ) (whole : List ℕ) → WroteSome old now before at [] whole → Appends old now whole
+wrote_all old now before at whole w = subst (Appends old now) (sym (append-nil w.done) ∙ w.split) w.grew
+
+-- a front of the next piece is a front of the whole
+pub wrote_front : (old now new : Option (List ℕ)) (before at : ℕ) (piece rest whole : List ℕ)
+    → WroteSome old now before at (piece ++ rest) whole → AppendsFront now new piece → AppendsFront old new whole
+wrote_front old now new before at piece rest whole w (n, h, a) =
+    let front : take (length w.done + n) (w.done ++ (piece ++ rest)) ≡ w.done ++ take n piece =
+    take-append-add w.done (piece ++ rest) n ∙ ap (λ (t : List ℕ). w.done ++ t) (take-append-le n piece rest (omega (arith, h))) in
+    let size : length (w.done ++ (piece ++ rest)) ≡ length w.done + (length piece + length rest) =
+    length-append w.done (piece ++ rest) ∙ ap (λ (m : ℕ). length w.done + m) (length-append piece rest) in (
+      length w.done + n,
+      subst (λ (t : List ℕ). length w.done + n < length t) w.split (omega (arith, size, h)),
+      subst (λ (t : List ℕ). Appends old new (take (length w.done + n) t)) w.split
+          (subst (Appends old new) (sym front) (Appends-trans old now new w.done (take n piece) w.grew a)),
+    )
+
+-- where the next piece cannot be made, a front of the whole was written
+pub wrote_no_more : (old now : Option (List ℕ)) (before at : ℕ) (rest whole : List ℕ)
+    → WroteSome old now before at rest whole → 0 < length rest → AppendsFront old now whole
+wrote_no_more old now before at rest whole w h =
+    wrote_front old now now before at rest [] whole
+    (record { done = w.done; grew = w.grew; split = ap (λ (t : List ℕ). w.done ++ t) (append-nil rest) ∙ w.split; count = w.count })
+    (0, h, appends_none now)
+
+-- what stopped the writing of the next piece stopped that of the whole
+pub wrote_stop : (old now new : Option (List ℕ)) (before at after : ℕ) (piece rest whole : List ℕ) (stop : WriteStop)
+    → WroteSome old now before at (piece ++ rest) whole → WriteAll {T = Unit {0}} now new at after piece (Err stop)
+    → WriteAll {T = Unit {0}} old new before after whole (Err stop)
+wrote_stop old now new before at after piece rest whole write.Failed w (front, rose) =
+    (wrote_front old now new before at piece rest whole w front, Rose-before before at after w.count rose)
+wrote_stop old now new before at after piece rest whole write.NoMemory w front =
+    wrote_front old now new before at piece rest whole w front
+
+-- what became of the writing of all the rest became of that of the whole
+pub wrote_rest : (old now new : Option (List ℕ)) (before at after : ℕ) (rest whole : List ℕ) (result : Result (Unit {0}) WriteStop)
+    → WroteSome old now before at rest whole → WriteAll now new at after rest result → WriteAll old new before after whole result
+wrote_rest old now new before at after rest whole (Ok value) w a =
+    subst (Appends old new) w.split (Appends-trans old now new w.done rest w.grew a)
+wrote_rest old now new before at after rest whole (Err stop) w a =
+    wrote_stop old now new before at after rest [] whole stop
+    (record { done = w.done; grew = w.grew; split = ap (λ (t : List ℕ). w.done ++ t) (append-nil rest) ∙ w.split; count = w.count }) a
+
+split_wrote : (kinds : List KindName) (regions : List Region) (events : List Event) (from to n : ℕ) (old now : Option (List ℕ)) (before at : ℕ)
+    → to ≡ from + n
+    → WroteSome old now before at (events_text kinds regions (drop from events)) (events_text kinds regions events)
+    → WroteSome old now before at (events_text kinds regions (take (to - from) (drop from events)) ++ events_text kinds regions (drop to events)) (events_text kinds regions events)
+split_wrote kinds regions events from to n old now before at e w =
+    let size : from + (to - from) ≡ to = omega (arith, e) in
+    let split : events_text kinds regions (drop from events) ≡ events_text kinds regions (take (to - from) (drop from events)) ++ events_text kinds regions (drop to events) =
+    events_split kinds regions events from (to - from)
+    ∙ ap (λ (k : ℕ). events_text kinds regions (take (to - from) (drop from events)) ++ events_text kinds regions (drop k events)) size in
+    subst (λ (t : List ℕ). WroteSome old now before at t (events_text kinds regions events)) split w
+
+-- the next piece of some events, of which those before `from` were written
+pub wrote_piece : (kinds : List KindName) (regions : List Region) (events : List Event) (from to n : ℕ) (old now new : Option (List ℕ)) (before at after : ℕ)
+    → to ≡ from + n
+    → WroteSome old now before at (events_text kinds regions (drop from events)) (events_text kinds regions events)
+    → Appends now new (events_text kinds regions (take (to - from) (drop from events))) → at ≤ after
+    → WroteSome old new before after (events_text kinds regions (drop to events)) (events_text kinds regions events)
+wrote_piece kinds regions events from to n old now new before at after e w a h =
+    wrote_next old now new before at after (events_text kinds regions (take (to - from) (drop from events))) (events_text kinds regions (drop to events))
+    (events_text kinds regions events) (split_wrote kinds regions events from to n old now before at e w) a h
+
+-- a piece that stopped
+pub wrote_piece_stop : (kinds : List KindName) (regions : List Region) (events : List Event) (from to n : ℕ) (old now new : Option (List ℕ)) (before at after : ℕ)
+    (stop : WriteStop) → to ≡ from + n
+    → WroteSome old now before at (events_text kinds regions (drop from events)) (events_text kinds regions events)
+    → WriteAll {T = Unit {0}} now new at after (events_text kinds regions (take (to - from) (drop from events))) (Err stop)
+    → WriteAll {T = Unit {0}} old new before after (events_text kinds regions events) (Err stop)
+wrote_piece_stop kinds regions events from to n old now new before at after stop e w a =
+    wrote_stop old now new before at after (events_text kinds regions (take (to - from) (drop from events))) (events_text kinds regions (drop to events))
+    (events_text kinds regions events) stop (split_wrote kinds regions events from to n old now before at e w) a
+
+-- a piece that cannot be made, of which nothing was written
+pub no_piece : (old : Option (List ℕ)) (piece : List ℕ) → 0 < length piece → AppendsFront old old piece
+no_piece old piece h = (0, h, appends_none old)
+
+-- an error that is handed on
+pub err_is : (result : Result (Unit {0}) WriteStop) (stop : WriteStop) → IsErr result × IsErrAnd result (λ it. it ≡ stop) → result ≡ Err stop
+err_is (Ok value) stop (h, e) = absurd e
+err_is (Err it) stop (h, e) = ap Err e
+
+-- two texts, of which the first was written
+pub wrote_first : (old now : Option (List ℕ)) (before at : ℕ) (first second : List ℕ) → Appends old now first → before ≤ at
+    → WroteSome old now before at second (first ++ second)
+wrote_first old now before at first second a h = record { done = first; grew = a; split = refl; count = h }
+
+-- two texts, of which the first stopped
+pub first_stops : (old new : Option (List ℕ)) (before after : ℕ) (first second : List ℕ) (stop : WriteStop) (result : Result (Unit {0}) WriteStop)
+    → result ≡ Err stop → WriteAll {T = Unit {0}} old new before after first (Err stop) → WriteAll old new before after (first ++ second) result
+first_stops old new before after first second stop result e a =
+    subst (WriteAll {T = Unit {0}} old new before after (first ++ second)) (sym e)
+    (wrote_stop old old new before before after first second (first ++ second) stop (wrote_none old before (first ++ second)) a)
