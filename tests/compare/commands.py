@@ -227,9 +227,9 @@ def compare(case):
 
 # ---- all of them -------------------------------------------------------------------------------------------------------
 
-def show(found, folder):
+def show(found, folder, number):
     """Prints the differences of a case, and keeps its document."""
-    path = os.path.join(folder, re.sub('[^a-z0-9]+', '_', found.name.lower()) + '.cd')
+    path = os.path.join(folder, f'{number}_' + re.sub('[^a-z0-9]+', '_', found.name.lower())[:80] + '.cd')
     with open(path, 'wb') as kept:
         kept.write(found.data)
     for said in found.differences:
@@ -261,7 +261,7 @@ def main():
             passed, failed = passed + (not found.differences), failed + bool(found.differences)
             if found.differences and failed <= SHOWN:
                 folder = folder or tempfile.mkdtemp(prefix='compare-')
-                show(found, folder)
+                show(found, folder, failed)
     if failed > SHOWN:
         print(f'{failed - SHOWN} more are not shown')
     for group in dict.fromkeys(group for group, _ in tally):

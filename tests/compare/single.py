@@ -6,9 +6,13 @@ from making import TOP, Lin, Maker, Part, some_name, some_word, text, written
 
 TEXT_LIMIT = 1048576
 
-# What stands behind the destination: a number, sources of the destination's length that may be the destination, or other sources.
+# What stands behind the destination: a number (k), a source of its length that may be the destination (s), or another source: of a
+# length that it shares (c; n, of small numbers), of one or two words more (1, of small numbers; 2), of any length (x).
 SHAPES = {'fill': 'k', 'copy': 's', 'add': 'ss', 'sub': 'ss', 'mul': 'ss', 'axpy': 'ks', 'scan': 's', 'sum': 'x', 'dot': 'cc', 'max': 'x',
-          'stencil': 'kkk2', 'spmv': '1ccx'}
+          'stencil': 'kkk2', 'spmv': '1ncx'}
+
+# Patterns of small numbers, which serve as row starts and as columns.
+SMALL = [['iota', '0', '1'], ['iota', '0', '2'], ['const', '1'], ['iota', '1', '0']]
 
 
 class Single(Maker):
@@ -51,12 +55,15 @@ class Single(Maker):
         """Says the regions, and gives the ranges that are preserved; `kept` has those that hang together."""
         rng = self.rng
         self.sizes = {}
+        self.small = set()
         entries = []
         usual = rng.choice([[1, 2, 3, 4, 5], [3, 4, 8, 9, 10], [15, 16, 17, 18], [1, 16, 63, 64, 65, 66], [rng.randrange(1, 300), 1, 100]])
         for _ in range(rng.choice([0, 1, 2, 3, 4, 5, 6])):
             name, size = some_name(rng, self.sizes), rng.choice(usual)
             self.sizes[name] = size
-            pattern = rng.choice([self.pattern(), self.pattern(), ['iota', '0', '1'], ['iota', '0', '2'], ['const', '1'], ['iota', '1', '0']])
+            pattern = rng.choice([self.pattern(), self.pattern(), *SMALL])
+            if pattern in SMALL:
+                self.small.add(name)
             self.say('region', self.region_name(name), self.number(size), *pattern)
             if rng.random() < 0.15:
                 continue
@@ -94,6 +101,12 @@ class Single(Maker):
                 return name, low, high
         return None
 
+    def first_words(self, size, apart):
+        """The first kept words of a region of small numbers, apart from another range; None where there are none."""
+        fit = [(name, low, low + size) for name, low, high in self.kept
+               if name in self.small and size <= high - low and (name != apart[0] or low + size <= apart[1] or apart[2] <= low)]
+        return self.rng.choice(fit) if fit else None
+
     def step(self):
         rng = self.rng
         if rng.random() < 0.12:
@@ -118,7 +131,9 @@ class Single(Maker):
             return self.number(some_word(self.rng))
         if letter == 's' and self.rng.random() < 0.35:
             return self.written_range(to)
-        found = self.piece_of({'s': size, '1': size + 1, '2': size + 2, 'c': common, 'x': None}[letter], to)
+        length = {'s': size, '1': size + 1, '2': size + 2, 'c': common, 'n': common, 'x': None}[letter]
+        found = self.first_words(length, to) if letter in '1n' and self.rng.random() < 0.8 else None
+        found = found or self.piece_of(length, to)
         return found and self.written_range(found)
 
     def loop(self):
