@@ -1,11 +1,12 @@
 #!/usr/bin/env bash
 # How long the reader of the whole language takes: a text at the limit of 1,048,576 bytes, with 16,384 operations; the largest
 # expansion, 65,000 turns of nested loops; and loops without turns inside a loop of many, which no limit bounds. Beside the
-# first, a plain loop over its bytes (`wc -l`). Run by hand, on the program for comparisons; the test builds it.
+# first, a plain loop over its bytes (`wc -l`). Run by hand; the program is built first where that is due.
 set -eu
 
 top=$(dirname -- "$(readlink -f -- "${BASH_SOURCE[0]}")")/..
-probe=$top/crates/cd_probe/out/cd_probe
+program="$top/bin/cd"
+"$program" check </dev/null >/dev/null || true # builds where that is due
 text=$(mktemp)
 trap 'rm -f -- "$text"' EXIT
 
@@ -18,10 +19,10 @@ trap 'rm -f -- "$text"' EXIT
 } >"$text"
 wc -c <"$text"
 time wc -l <"$text"
-time "$probe" <"$text" | tail -n 1
+time "$program" check <"$text" | head -n 1
 
 printf 'cd 1\nfor a in 0..250\nfor b in 0..259\nend\nend\ndomain root retry 1 detects flip\nend\n' >"$text"
-time "$probe" <"$text" | tail -n 1
+time "$program" check <"$text" | head -n 1
 
 {
     printf 'cd 1\nfor a in 0..65535\n'
@@ -30,4 +31,4 @@ time "$probe" <"$text" | tail -n 1
     done
     printf 'end\n'
 } >"$text"
-time "$probe" <"$text" | tail -n 1
+time "$program" check <"$text" | head -n 1
