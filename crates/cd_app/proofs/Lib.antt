@@ -1,3 +1,4 @@
 pub mod WriteLemmas
 pub mod CallLemmas
+pub mod DueLemmas
 pub mod RunLemmas

@@ -1,3 +1,5 @@
 pub mod Codes
+pub mod Due
+pub mod Lifted
 pub mod Parts
 pub mod Running

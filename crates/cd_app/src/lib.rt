@@ -2,6 +2,7 @@
 #![tactic(auto)]
 
 mod actions;
+pub mod laws;
 mod receive;
 mod run;
 mod status;
