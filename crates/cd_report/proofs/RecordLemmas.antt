@@ -7,13 +7,12 @@ use Rattle.std.proofs.lemmas.Option.{slice_get_within, get_or_from_slice_get, sl
 use Rattle.std.proofs.KnownBytes.{Appends-trans}
 use Rattle.std.specs.Io.KnownBytes.{Appends}
 use Rattle.std.specs.Fmt.{decimal}
-use Rattle.std.specs.List.{flat_map}
 use Rattle.std.specs.Prelude.{Result, IsErr, IsErrAnd}
 use Rattle.std.proofs.lemmas.Bool.{cases_lt, false≢true}
 use Rattle.cd_base.specs.declared.place.Place.{Place}
 use Rattle.cd_base.specs.declared.sink.WriteStop.{WriteStop}
 use Rattle.cd_base.specs.declared.sink.WriteStop.TheVariants as write
-use Rattle.cd_base.specs.Ends.{Rose, AppendsFront, WriteAll}
+use Rattle.cd_base.specs.Ends.{AppendsFront, WriteAll}
 use Rattle.cd_base.proofs.EndLemmas.{Rose-before}
 use Rattle.cd_tree.specs.declared.domain.NodeId.{NodeId}
 use Rattle.cd_tree.specs.declared.document.Region.{Region}

@@ -10,7 +10,10 @@ use Rattle.cd_tree.specs.declared.document.Document.{Document}
 use Rattle.cd_tree.specs.declared.kinds.KindName.{KindName}
 use Rattle.cd_tree.specs.declared.refusal.Refusal.TheVariants.{Overlap, Uncovered, NoTarget, Stale}
 use Rattle.cd_tree.specs.Outlines.{Outline}
+use Rattle.cd_tree.specs.declared.event.Kept.TheVariants.{Regen}
+use Rattle.cd_tree.specs.declared.event.Event.TheVariants.{Begin, Saved, Fell, Lapsed, Refilled, Reached, Halted, Found, Complete, Escalate}
 use Rattle.cd_report.specs.Texts.{report_text, region_line, kinds_text, refusal_line}
+use Rattle.cd_report.specs.Records.{record_text}
 
 abbrev id : ℕ → NodeId
 id n = record { 0 = n }
@@ -97,3 +100,16 @@ no_target = refl
 stale : refusal_line document (Stale (id 1) 0 (record { region = 1; index = 8 })) ≡ codes "refused E12 root/b entry 0 z[8]\n"
 unfolding digits
 stale = refl
+
+-- a domain and a region that are not there have no name
+nowhere : refusal_line document (Uncovered (id 3) (record { region = 2; index = 5 })) ≡ codes "refused E10  [5]\n"
+unfolding digits
+nowhere = refl
+
+-- one event of each sort
+each_event : record_text kinds (region (codes "y") 4 ∷ [])
+    (Begin (id 0) 1 ∷ Saved (id 0) 3 Regen ∷ Fell (id 1) 2 (record { region = 0; index = 3 }) 7 8 ∷ Lapsed (id 1) 0 12 13 ∷ Refilled (id 2) 5
+    ∷ Reached (id 2) 4 ∷ Halted (id 3) 8 ∷ Found (id 0) 0 ∷ Complete (id 10) ∷ Escalate (id 0) ∷ [])
+    ≡ codes "record\nbegin 0 1\nsaved 0 3 regen\nfell 1 2 y[3] wanted 7 found 8\nlapsed 1 0 seen 12 found 13\nrefilled 2 5\nreached 2 4\nhalted 3 node\nfound 0 none\ncomplete 10\nescalate 0\n"
+unfolding digits
+each_event = refl

@@ -1,5 +1,5 @@
 -- The record of a run as text, and the whole text of a run.
-use Rattle.std.specs.Prelude.{ℕ, Bool, List, [], ◌∷◌, ◌++◌, Option, if◌then◌else◌, codes, decimal}
+use Rattle.std.specs.Prelude.{ℕ, Bool, List, [], ◌++◌, Option, if◌then◌else◌, codes, decimal}
 use Rattle.std.specs.List.{flat_map}
 use Rattle.cd_base.specs.Words.{Words}
 use Rattle.cd_tree.specs.declared.document.Region.{Region}

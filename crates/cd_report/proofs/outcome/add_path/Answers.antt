@@ -1,4 +1,4 @@
-use Rattle.std.proofs.Common.{◌≡◌, List, ℕ, [], ◌++◌, ◌∙◌, sym, ap, arith, string_bytes}
+use Rattle.std.proofs.Common.{List, ℕ, ◌++◌, ◌∙◌, sym, ap, arith, string_bytes}
 use Rattle.std.proofs.lemmas.List.{append-nil}
 use Rattle.cd_report.proofs.TextLemmas.{path_missing}
 use Rattle.cd_report.proofs.outcome.add_path.Goals as goal

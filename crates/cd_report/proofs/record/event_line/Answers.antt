@@ -1,4 +1,4 @@
-use Rattle.std.proofs.Common.{◌≡◌, ◌++◌, ◌∙◌, List, ℕ, sym, ap, codes, string_bytes}
+use Rattle.std.proofs.Common.{◌≡◌, ◌++◌, ap, codes, string_bytes}
 use Rattle.std.proofs.lemmas.Result.{IfOk-weaker}
 use Rattle.std.specs.Fmt.{decimal}
 use Rattle.cd_report.specs.Records.{event_line}

@@ -1,5 +1,4 @@
-use Rattle.std.proofs.Common.{◌≡◌, List, [], ◌∙◌, ap, drop, sym, subst, arith}
-use Rattle.cd_base.specs.declared.sink.WriteStop.{WriteStop}
+use Rattle.std.proofs.Common.{◌≡◌, List, [], drop, sym, subst, arith}
 use Rattle.cd_base.specs.Ends.{WriteAll}
 use Rattle.cd_tree.specs.declared.event.Event.{Event}
 use Rattle.cd_report.specs.Records.{events_text}

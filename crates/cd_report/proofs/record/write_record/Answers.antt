@@ -1,4 +1,4 @@
-use Rattle.std.proofs.Common.{◌≡◌, List, ℕ, Err, codes, sym, subst}
+use Rattle.std.proofs.Common.{List, ℕ, Err, codes, subst}
 use Rattle.std.specs.Io.KnownBytes.{Appends}
 use Rattle.cd_base.specs.Ends.{WriteAll}
 use Rattle.cd_report.specs.Texts.{line}
