@@ -1,6 +1,10 @@
-use crate::{write_read_fault, write_refusal, write_usage};
-use cd_base::{MemorySink, WriteStop};
-use cd_tree::{Refusal, Which};
+use crate::{
+    write_not_built, write_read_fault, write_reading, write_refusal, write_run, write_usage,
+};
+use cd_base::{Items, MemorySink, Place, Text, WriteStop};
+use cd_field::{Field, ScriptField};
+use cd_tree::{Begins, Domain, Kept, Kind, KindName, Kinds, NodeId, Refusal, Tree, Which};
+use std::alloc::Global;
 use std::test::Fail;
 
 /// The refusal with a number, of those that name no domain and no limit.
@@ -78,9 +82,10 @@ fn lines_of_their_own(rt: HostRuntime) -> Result<(), Fail> {
     let mut sink = MemorySink::new(alloc, 100, Vec::new(alloc));
     write_usage(&mut sink)?;
     write_read_fault(&mut sink)?;
-    let both =
-        "usage: cd check|read|run|make|lift [--workers N] [--record] [--size N]\nread fault\n";
-    assert_eq!(rt; sink.bytes(), both.as_bytes());
+    write_not_built(&mut sink)?;
+    let lines =
+        "usage: cd check|read|run|make|lift [--workers N] [--record] [--size N]\nread fault\nnot built yet\n";
+    assert_eq!(rt; sink.bytes(), lines.as_bytes());
     Ok(())
 }
 
@@ -90,5 +95,90 @@ fn a_failing_write_leaves_the_front_of_a_line(rt: HostRuntime) -> Result<(), Fai
     let mut sink = MemorySink::new(alloc, 4, Vec::from_slice(alloc, &[3])?);
     assert_eq!(rt; write_read_fault(&mut sink), Err(WriteStop::Failed));
     assert_eq!(rt; sink.bytes(), b"read fau".as_slice());
+    Ok(())
+}
+
+// A program of one domain, with one kind.
+fn one_domain(alloc: Global) -> Result<Option<Tree>, Fail> {
+    let mut kinds = Items::new(alloc);
+    kinds.push(KindName {
+        name: Text::of(alloc, "hard")?,
+        halts: true,
+    })?;
+    let mut domains = Items::new(alloc);
+    domains.push(Domain {
+        name: Text::of(alloc, "root")?,
+        parent: None,
+        retry: 1,
+        detects: Kinds::none(),
+        entries: Items::new(alloc),
+        items: Items::new(alloc),
+    })?;
+    Ok(Tree::checked(kinds, domains))
+}
+
+// A machine without regions, and with some events on record.
+fn told(alloc: Global) -> Result<ScriptField, Fail> {
+    let mut machine = ScriptField::empty(alloc);
+    machine.begin(NodeId(0), 1)?;
+    machine.saved(2, Kept::Refer)?;
+    machine.refilled(3)?;
+    machine.halted(Kinds::none().with(Kind(0)))?;
+    machine.found(Kinds::none())?;
+    machine.escalate()?;
+    Ok(machine)
+}
+
+#[test]
+fn a_report_with_its_record(rt: HostRuntime) -> Result<(), Fail> {
+    let alloc = rt.alloc();
+    let tree = one_domain(alloc)?.expect(&rt, "a tree");
+    let begins = Begins::of(Vec::from_slice(alloc, &[1])?);
+    let mut sink = MemorySink::new(alloc, 5, Vec::new(alloc));
+    if tree.count() == 1 {
+        let machine = told(alloc)?;
+        write_run(
+            alloc,
+            &tree,
+            &Items::new(alloc),
+            &machine,
+            &begins,
+            None,
+            true,
+            &mut sink,
+        )?;
+    }
+    let text =
+        "committed\nbegins root 1\ntotal 1\nrecord\nbegin 0 1\nsaved 0 2 refer\nrefilled 0 3\nhalted 0 hard\nfound 0 none\nescalate 0\n";
+    assert_eq!(rt; sink.bytes(), text.as_bytes());
+    Ok(())
+}
+
+#[test]
+fn what_the_reading_gives(rt: HostRuntime) -> Result<(), Fail> {
+    let alloc = rt.alloc();
+    let tree = one_domain(alloc)?.expect(&rt, "a tree");
+    let begins = Begins::of(Vec::from_slice(alloc, &[12])?);
+    let mut sink = MemorySink::new(alloc, 5, Vec::new(alloc));
+    if tree.count() == 1 {
+        write_reading(alloc, &tree, &begins, None, &mut sink)?;
+    }
+    assert_eq!(rt;
+        sink.bytes(),
+        b"committed\nbegins root 12\ntotal 12\n".as_slice()
+    );
+    Ok(())
+}
+
+#[test]
+fn what_is_not_there_has_no_name(rt: HostRuntime) -> Result<(), Fail> {
+    let alloc = rt.alloc();
+    let mut sink = MemorySink::new(alloc, 100, Vec::new(alloc));
+    let place = Place {
+        region: 2,
+        index: 5,
+    };
+    write_refusal(alloc, None, &Refusal::Stale(NodeId(7), 1, place), &mut sink)?;
+    assert_eq!(rt; sink.bytes(), b"refused E12  entry 1 \n".as_slice());
     Ok(())
 }
