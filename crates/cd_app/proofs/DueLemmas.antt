@@ -7,7 +7,7 @@ use Rattle.cd_tree.specs.declared.document.Fault.{Fault}
 use Rattle.cd_tree.specs.declared.event.Cause.{Cause}
 use Rattle.cd_tree.specs.declared.refusal.Refusal.{Refusal}
 use Rattle.cd_check.specs.Checking.{FirstRefusal, Passes}
-use Rattle.cd_check.specs.Laws.{FirstRefusalIsOne, ScriptIsOne, VersionChangesNoRefusal, VersionChangesNoPassing}
+use Rattle.cd_check.specs.Laws.{FirstRefusalIsOne, ScriptIsOne}
 use Rattle.cd_parse.specs.Laws.{ParsedIsWellRead}
 use Rattle.cd_parse.specs.Reading.{parse}
 use Rattle.cd_print.specs.Canonical.{lifted}
@@ -347,13 +347,12 @@ due_is_given comes one call sink bytes status due meets known read wrote is =
 
 -- ---- a lifted document
 
-pub lifted_refused_alike : VersionChangesNoRefusal → (document : Document) (answer : Option Refusal)
-    → FirstRefusal (lifted document) answer ↔ FirstRefusal document answer
-lifted_refused_alike versions document answer = let same = versions document 2 answer in (same.1, same.0)
-
-pub lifted_passes_alike : VersionChangesNoPassing → (document : Document) (script : List Fault)
-    → Passes (lifted document) script ↔ Passes document script
-lifted_passes_alike versions document script = let same = versions document 2 script in (same.1, same.0)
+-- the checks look at the program and the faults alone
+pub lifted_passes_alike : (document : Document) (script : List Fault) → Passes (lifted document) script ↔ Passes document script
+lifted_passes_alike document script = (
+  λ passes. record { checked = passes.checked; found = passes.found; disjoint = passes.disjoint; accepted = passes.accepted },
+  λ passes. record { checked = passes.checked; found = passes.found; disjoint = passes.disjoint; accepted = passes.accepted },
+)
 
 pub lifted_runs_alike : (document : Document) (script : List Fault) (with_record : Bool)
     → (IsBuilt (lifted document).tree ↔ IsBuilt document.tree)

@@ -39,6 +39,4 @@ pub fn a_lifted_document_is_the_same_program()
     ensures need { LiftedNeedsTheSame }
     ensures reading { LiftedReadsTheSame }
     ensures run { LiftedRunsAlike }
-{
-    laws::the_version_changes_no_check();
-}
+{}

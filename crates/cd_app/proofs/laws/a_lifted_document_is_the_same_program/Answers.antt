@@ -1,11 +1,8 @@
-use Rattle.cd_app.proofs.DueLemmas.{lifted_refused_alike, lifted_passes_alike, lifted_runs_alike}
+use Rattle.cd_app.proofs.DueLemmas.{lifted_passes_alike, lifted_runs_alike}
 use Rattle.cd_app.proofs.laws.a_lifted_document_is_the_same_program.Goals as goal
 
-pub returns-clause-refusal : goal.returns-clause-refusal
-returns-clause-refusal c = lifted_refused_alike c.the_version_changes_no_check.ensures.refusal
-
 pub returns-clause-passing : goal.returns-clause-passing
-returns-clause-passing c = lifted_passes_alike c.the_version_changes_no_check.ensures.passing
+returns-clause-passing c = lifted_passes_alike
 
 pub returns-clause-run : goal.returns-clause-run
 returns-clause-run c = lifted_runs_alike
