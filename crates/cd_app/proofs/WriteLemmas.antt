@@ -21,23 +21,21 @@ use Rattle.cd_app.specs.Parts.{status_said, status_written}
 
 -- a front of the first text is one of both
 front_of_both : (a b : Option (List ℕ)) (first second : List ℕ) → AppendsFront a b first → AppendsFront a b (first ++ second)
-front_of_both a b first second front =
-    (
-      front.0,
-      omega (arith, front.1, length-append first second),
-      subst (Appends a b) (sym (take-append-le front.0 first second (omega (arith, front.1)))) front.2,
-    )
+front_of_both a b first second front = (
+  front.0,
+  omega (arith, front.1, length-append first second),
+  subst (Appends a b) (sym (take-append-le front.0 first second (omega (arith, front.1)))) front.2,
+)
 
 -- the first text, and then a front of the second
 front_behind : (a b d : Option (List ℕ)) (first second : List ℕ) → Appends a b first → AppendsFront b d second
     → AppendsFront a d (first ++ second)
-front_behind a b d first second whole front =
-    (
-      length first + front.0,
-      omega (arith, front.1, length-append first second),
-      subst (Appends a d) (sym (take-append-add first second front.0))
+front_behind a b d first second whole front = (
+  length first + front.0,
+  omega (arith, front.1, length-append first second),
+  subst (Appends a d) (sym (take-append-add first second front.0))
       (Appends-trans a b d first (take front.0 second) whole front.2),
-    )
+)
 
 rose_later : (f g h : ℕ) → f ≤ g → Rose g h → Rose f h
 rose_later f g h up rose =

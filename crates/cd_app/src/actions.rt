@@ -45,12 +45,7 @@ pub fn plain_cd<S: Source, K: Sink>(
 }
 
 // Does `check`, `read` or `lift` on the document that the source gives.
-fn act<S: Source, K: Sink>(
-    alloc: Global,
-    command: Command,
-    source: &mut S,
-    sink: &mut K,
-) -> Status
+fn act<S: Source, K: Sink>(alloc: Global, command: Command, source: &mut S, sink: &mut K) -> Status
     requires { SaysOfDocument command }
     ensures meets { (words : List (List ℕ)) (m : Machine) → command_in words ≡ Some command → Meets (call_of words (S.left source.old) (S.left source.new) (S.faults source.old) (S.faults source.new) m m) (written (K.holds sink.old) (K.holds sink.new) (K.faults sink.old) (K.faults sink.new)) result }
     ensures read_count { S.faults source.old ≤ S.faults source.new }
@@ -131,9 +126,7 @@ fn write_read<K: Sink>(
     let tree = &document.tree;
     prove!(0 < tree.count());
     match read_through(alloc, tree, script) {
-        Ok(reading) => {
-            write_reading(alloc, tree, &reading.begins, reading.cause.as_ref(), sink)
-        }
+        Ok(reading) => { write_reading(alloc, tree, &reading.begins, reading.cause.as_ref(), sink) }
         Err(NoMemory) => Err(WriteStop::NoMemory),
     }
 }

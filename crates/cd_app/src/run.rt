@@ -93,7 +93,15 @@ fn run_accepted<K: Sink, F: Field>(
     }
     match run_machine(alloc, accepted, machine) {
         Ok((begins, cause)) => {
-            let wrote = report(alloc, accepted, machine, begins, cause.as_ref(), with_record, sink);
+            let wrote = report(
+                alloc,
+                accepted,
+                machine,
+                begins,
+                cause.as_ref(),
+                with_record,
+                sink,
+            );
             finished(wrote, cause)
         }
         Err(NoMemory) => Status::NoMemory,
