@@ -19,7 +19,8 @@ use Rattle.cd_print.specs.Canonical.{canonical, lifted}
 use Rattle.cd_field.specs.Machine.{Machine, nowhere}
 use Rattle.cd_core.specs.Single.{OnlyCopies, NeverHalts}
 use Rattle.cd_reading.specs.Through.{begins_in, cause_in}
-use Rattle.cd_report.specs.Texts.{run_text, reading_text, accepted_line, refusal_line, usage_line, fault_line, not_built_line}
+use Rattle.cd_report.specs.Records.{run_text}
+use Rattle.cd_report.specs.Texts.{reading_text, accepted_line, refusal_line, usage_line, fault_line, not_built_line}
 use Rattle.cd_command.specs.declared.command.Command.{Command}
 use Rattle.cd_command.specs.declared.command.Command.TheVariants.{Check, Read, Lift, Run, Make}
 use Rattle.cd_command.specs.CommandLine.{command_in}
