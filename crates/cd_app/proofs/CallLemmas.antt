@@ -18,7 +18,7 @@ use Rattle.cd_app.specs.declared.status.Status.{Status}
 use Rattle.cd_app.specs.declared.status.Status.TheVariants.{Usage, Refused, ReadFault, NotBuilt}
 use Rattle.cd_app.specs.Running.{Call, Written, Accepts, Refuses, Runs, HoldsRun, IsBuilt, IsRun, TakesDocument, SaysOfDocument, Gives, Meets, status_of, said_of, check_text, read_text, lift_text, report_of}
 use Rattle.cd_app.specs.Parts.{Receives, status_said, status_written, record_asked}
-use Rattle.cd_app.proofs.WriteLemmas.{GivesText, line_said, text_written}
+use Rattle.cd_app.proofs.WriteLemmas.{line_said, text_written}
 
 -- what is written to a sink of a text
 abbrev Writes : {T : Type 0} → Written → List ℕ → Result T WriteStop → Type 0

@@ -1,6 +1,5 @@
 -- What the parts of a run and of a reading want to know of a document that was read.
-use Rattle.std.proofs.Common.{◌≡◌, ℕ, zero, suc, ◌+◌, ◌*◌, ◌^◌, ◌<◌, ◌≤◌, Bool, true, false, ◌||◌, ◌==◌, nat_lt, cond, List, [], ◌∷◌, length, get_or, sum, fold, slice_get, Option, None, Some, IsSome, All, refl, ap, subst, sym, ◌∙◌, arith, ◌↔◌}
-use Rattle.std.specs.Bool.{Decides}
+use Rattle.std.proofs.Common.{◌≡◌, ℕ, zero, suc, ◌+◌, ◌*◌, ◌^◌, ◌<◌, ◌≤◌, Bool, true, false, ◌||◌, nat_lt, cond, List, [], ◌∷◌, length, get_or, sum, fold, slice_get, Option, None, Some, IsSome, All, refl, ap, subst, sym, ◌∙◌, arith, ◌↔◌}
 use Rattle.std.proofs.lemmas.Bool.Decides.{nat_tests}
 use Rattle.cd_base.specs.declared.place.Place.{Place}
 use Rattle.cd_base.specs.Words.{Words, in_range, pattern_word}
@@ -21,7 +20,7 @@ use Rattle.cd_script.specs.Acceptance.{AreFoundAs}
 use Rattle.cd_parse.specs.WellRead.{WellRead, IsReadRange, AreReadEntries, AreReadDomains}
 use Rattle.cd_field.specs.Machine.{Machine, IsPresent, loaded}
 use Rattle.cd_core.specs.Single.{OnlyCopies}
-use Rattle.cd_app.specs.Running.{HoldsRun, IsBuilt, words_at_end, last_words}
+use Rattle.cd_app.specs.Running.{HoldsRun, words_at_end}
 
 -- ---- the reading's counts
 

@@ -1,4 +1,4 @@
-use Rattle.std.proofs.Common.{◌≤◌, ℕ, length, subst, sym}
+use Rattle.std.proofs.Common.{◌≤◌, ℕ, subst, sym}
 use Rattle.cd_app.proofs.RunLemmas.{found_length}
 use Rattle.cd_app.proofs.actions.say.Goals as goal
 

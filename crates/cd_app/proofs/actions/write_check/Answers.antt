@@ -1,4 +1,3 @@
-use Rattle.std.proofs.Common.{refl}
 use Rattle.cd_app.proofs.WriteLemmas.{check_cut, check_written}
 use Rattle.cd_app.proofs.actions.write_check.Goals as goal
 

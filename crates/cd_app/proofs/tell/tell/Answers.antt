@@ -1,4 +1,3 @@
-use Rattle.std.proofs.Common.{refl}
 use Rattle.cd_app.specs.Running.{written}
 use Rattle.cd_app.proofs.CallLemmas.{refused_told, fault_told}
 use Rattle.cd_app.proofs.tell.tell.Goals as goal
