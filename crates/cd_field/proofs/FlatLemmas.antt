@@ -12,7 +12,7 @@ use Rattle.cd_tree.specs.Operations.{length_of}
 use Rattle.cd_field.specs.declared.flat_words.Cell.{Cell}
 use Rattle.cd_field.specs.declared.flat_words.Slot.{Slot}
 use Rattle.cd_field.proofs.PlaceLemmas.{same_place-eq}
-use Rattle.cd_field.specs.Flat.{index_of, cell_by, word_in, lost_in, slot_at, no_slot, is_behind, IsInOrder, HasCells}
+use Rattle.cd_field.specs.Flat.{index_of, cell_by, word_in, lost_in, slot_at, no_slot, is_behind, IsInOrder, HasCells, IsWhole}
 
 -- ---- choices
 
@@ -251,7 +251,7 @@ index_in_slot slots p k slot order short is has =
 
 -- ---- a change of one cell
 
-cell_there : (cells : List Cell) (i : ℕ) → IsSome (word_in (slice_get cells i)) → i < length cells
+pub cell_there : (cells : List Cell) (i : ℕ) → IsSome (word_in (slice_get cells i)) → i < length cells
 cell_there cells i some =
     elim (cases_lt i (length cells)) [
       | inl l ↦ l
@@ -261,6 +261,32 @@ cell_there cells i some =
           let no : IsSome (word_in None) = subst P none some in
           absurd (cc)
     ]
+
+-- a word that is known stands in its region's slot, where the regions are whole
+pub record IsThere (slots : List Slot) (p : Place) : Type 0 where
+  pub short : p.region < length slots
+  pub stands : index_of slots p ≡ Some ((slot_at slots p.region).first + p.index)
+
+pub stands_whole : (slots : List Slot) (cells : List Cell) (p : Place) (o : Option ℕ) → IsWhole slots → index_of slots p ≡ o
+    → IsSome (word_in (cell_by cells o)) → IsThere slots p
+stands_whole slots cells p None whole e some = absurd (cc)
+stands_whole slots cells p (Some i) whole e some =
+    let f : Found slots p i = index_found slots p i e in
+    let inside : Inside (slot_at slots f.k).range p = inside_from (slot_at slots f.k).range p f.has in
+    let region : f.k ≡ p.region = sym (whole.region f.k f.short) ∙ inside.region in
+    let low : (slot_at slots f.k).range.low ≡ 0 = whole.low f.k f.short in
+    let is : (slot_at slots f.k).first + (p.index - (slot_at slots f.k).range.low) ≡ i = f.is in
+    let there : (slot_at slots f.k).first + p.index ≡ i = omega arith in
+    let P : ℕ → Type 0 = λ k. k < length slots in
+    let Q : ℕ → Type 0 = λ k. (slot_at slots k).first + p.index ≡ i in
+    let first : (slot_at slots p.region).first + p.index ≡ i = subst Q region there in
+    record { short = subst P region f.short; stands = e ∙ ap (λ (n : ℕ). Some n) (sym first) }
+
+pub stands_within : (slots : List Slot) (cells : List Cell) (p : Place) (i : ℕ) → index_of slots p ≡ Some i
+    → IsSome (word_in (cell_by cells (index_of slots p))) → i < length cells
+stands_within slots cells p i e some =
+    let P : Option ℕ → Type 0 = λ o. IsSome (word_in (cell_by cells o)) in
+    cell_there cells i (subst P e some)
 
 cell_same : (cells : List Cell) (i : ℕ) (cell : Cell) → i < length cells → slice_get (set cells i cell) i ≡ Some cell
 cell_same cells i cell short =
@@ -440,6 +466,28 @@ cells_more slots count more own long = record {
   apart = own.apart;
   room = λ k short. omega (arith, own.room k short, long);
 }
+
+-- the slots are whole with one more
+pub whole_pushed : (slots : List Slot) (slot : Slot) → IsWhole slots → slot.range.region ≡ length slots → slot.range.low ≡ 0
+    → IsWhole (slots ++ slot ∷ [])
+whole_pushed slots slot whole region low = record {
+  region = λ k short. elim (cases_lt k (length slots)) [
+    | inl l ↦ ap (λ (s : Slot). s.range.region) (slot_old slots slot k l) ∙ whole.region k l
+    | inr l ↦
+        let e : length slots ≡ k = omega (arith, length-append slots (slot ∷ [])) in
+        let Q : ℕ → Type 0 = λ n. (slot_at (slots ++ slot ∷ []) n).range.region ≡ n in
+        subst Q e (ap (λ (s : Slot). s.range.region) (slot_new slots slot) ∙ region)
+  ];
+  low = each_pushed (λ (s : Slot). s.range.low ≡ 0) slots slot whole.low low;
+}
+
+pub whole_either : (pushed : Bool) (slots later : List Slot) (slot : Slot) (was now : Bool) (count : ℕ) → count ≡ length slots
+    → later ≡ (if pushed then slots ++ slot ∷ [] else slots) → (was ≡ true → IsWhole slots)
+    → (now ≡ true → (was ≡ true) × (slot.range.region ≡ count) × (slot.range.low ≡ 0)) → now ≡ true → IsWhole later
+whole_either true slots later slot was now count all is whole next t =
+    let n : (was ≡ true) × (slot.range.region ≡ count) × (slot.range.low ≡ 0) = next t in
+    subst IsWhole (sym is) (whole_pushed slots slot (whole n.0) (n.1 ∙ all) n.2)
+whole_either false slots later slot was now count all is whole next t = subst IsWhole (sym is) (whole (next t).0)
 
 -- ---- cells with 0
 

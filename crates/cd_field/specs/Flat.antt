@@ -60,3 +60,8 @@ no_range = record { region = 0; low = 0; high = 0 }
 -- the j-th range
 abbrev pub range_at : List Range → ℕ → Range
 range_at ranges j = slice_index_or ranges j no_range
+
+-- the slots are those of regions 0, 1, .. in order, each from its first word on
+pub record IsWhole (slots : List Slot) : Type 0 where
+  pub region : (k : ℕ) → k < length slots → (slot_at slots k).range.region ≡ k
+  pub low : (k : ℕ) → k < length slots → (slot_at slots k).range.low ≡ 0

@@ -1,8 +1,8 @@
 // Words in one flat list: a table of ranges in order says where the word of a place stands.
-ghost use Rattle.std.specs.Prelude.{◌≡◌, ◌++◌, ◌∷◌, [], ◌<◌, ◌≤◌, true, replicate, ◌&&◌, ◌||◌, ◌==◌, false, nat_lt, nat_le, None, Some, IsSome, length, OnOk, IfOk, if◌then◌else◌};
+ghost use Rattle.std.specs.Prelude.{◌≡◌, ◌++◌, ◌∷◌, [], ◌<◌, ◌≤◌, ◌^◌, true, replicate, ◌&&◌, ◌||◌, ◌==◌, false, nat_lt, nat_le, None, Some, IsSome, length, OnOk, IfOk, if◌then◌else◌};
 ghost use Rattle.cd_base.specs.Words.{same_place, in_range};
 ghost use Rattle.cd_tree.specs.Meaning.{written};
-ghost use Rattle.cd_field.specs.Flat.{cell_by, index_of, flat_words, flat_lost, is_behind, slot_at, HasCells, IsInOrder};
+ghost use Rattle.cd_field.specs.Flat.{index_of, flat_words, flat_lost, is_behind, slot_at, HasCells, IsInOrder, IsWhole};
 
 use cd_base::{NoMemory, Place, Range};
 use std::alloc::Global;
@@ -26,6 +26,9 @@ pub(crate) struct Slot {
 pub(crate) struct FlatWords {
     slots: Vec<Slot>,
     cells: Vec<Cell>,
+    // Whether the slots are those of all regions from 0 on; then the slot of a place needs no look at its range.
+    whole: bool,
+    ghost regions: { whole ≡ true → IsWhole slots.items },
     ghost order: { IsInOrder slots.items },
     ghost room: { HasCells slots.items (length cells.items) },
 }
@@ -40,15 +43,25 @@ impl FlatWords {
         FlatWords {
             slots: Vec::new(alloc),
             cells: Vec::new(alloc),
+            whole: true,
         }
     }
 
-    /// The word of a place, where it has one, and whether it is away.
-    pub(crate) fn cell(&self, place: Place) -> Option<Cell>
-        ensures { result ≡ cell_by self.now.cells.items (index_of self.now.slots.items place) }
+    /// Where the word of a place stands that has one.
+    #[inline(always)]
+    fn index(&self, place: Place) -> usize
+        requires { IsSome (flat_words self.now.slots.items self.now.cells.items place) }
+        ensures stands { index_of self.now.slots.items place ≡ Some result }
+        ensures within { result < length self.now.cells.items }
     {
-        let index = find_index(self.slots.as_slice(), place)?;
-        self.cells.get(index).copied()
+        if self.whole {
+            first_of(self.slots.as_slice(), place.region) + place.index as usize
+        } else {
+            match find_index(self.slots.as_slice(), place) {
+                Some(index) => index,
+                None => unreachable!(),
+            }
+        }
     }
 
     /// The word of a place that has one.
@@ -56,10 +69,8 @@ impl FlatWords {
         requires { IsSome (flat_words self.now.slots.items self.now.cells.items place) }
         ensures { flat_words self.now.slots.items self.now.cells.items place ≡ Some result }
     {
-        match self.cell(place) {
-            Some(cell) => cell.word,
-            None => unreachable!(),
-        }
+        let i = self.index(place);
+        self.cells[i].word
     }
 
     /// Changes the word of a place that has one, and says whether it is away.
@@ -69,9 +80,8 @@ impl FlatWords {
         ensures lost { (q : _) → flat_lost self.new.slots.items self.new.cells.items q ≡ (if same_place place q then lost else flat_lost self.old.slots.items self.old.cells.items q) }
         ensures slots { self.new.slots ≡ self.old.slots }
     {
-        if let Some(index) = find_index(self.slots.as_slice(), place) {
-            self.cells[index] = Cell { word, lost };
-        }
+        let i = self.index(place);
+        self.cells[i] = Cell { word, lost };
     }
 
     /// Adds the words of a range behind all others. They are 0, and none is away.
@@ -87,6 +97,7 @@ impl FlatWords {
             return Err(NoMemory);
         }
         add_blanks(&mut self.cells, range.high - range.low)?;
+        self.whole = is_next(self.whole, self.slots.len(), range);
         self.slots.push(Slot {
             range,
             first: count as u32,
@@ -151,6 +162,13 @@ impl FlatWords {
     }
 }
 
+// Whether a range goes on where so many regions are whole.
+fn is_next(whole: bool, count: usize, range: Range) -> bool
+    ensures { result ≡ true → (whole ≡ true) × (range.region ≡ count) × (range.low ≡ 0) }
+{
+    whole && range.region as usize == count && range.low == 0
+}
+
 const BLANK: Cell = Cell {
     word: 0,
     lost: false,
@@ -165,6 +183,14 @@ fn add_blanks(cells: &mut Vec<Cell>, count: u32) -> Result<(), NoMemory>
         cells.push(BLANK)?;
     }
     Ok(())
+}
+
+fn first_of(slots: &[Slot], region: u32) -> usize
+    requires { region < length slots.now }
+    ensures first { result ≡ (slot_at slots.now region).first }
+    ensures few { result < 2 ^ 32 }
+{
+    slots[region as usize].first as usize
 }
 
 // Where the word of a place stands. The first look is at the slot of the region's number, which is the right one where

@@ -160,7 +160,7 @@ impl Field for ScriptField {
         let reach = union_of(self.alloc, reads, writes)?;
         let mut part = ScriptField::empty(self.alloc);
         part.words = flat_part(self.alloc, &self.words, reach.ranges())?;
-        part.script = self.script.clone()?;
+        part.script = self.script.as_slice().to_vec(self.alloc)?;
         part.carved = writes.ranges().to_vec(self.alloc)?;
         mark_ranges(&mut self.words, writes.ranges());
         Ok(part)

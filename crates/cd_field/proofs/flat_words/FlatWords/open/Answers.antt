@@ -4,7 +4,7 @@ use Rattle.cd_tree.specs.Operations.{length_of}
 use Rattle.cd_field.specs.declared.flat_words.Cell.{Cell}
 use Rattle.cd_field.specs.declared.flat_words.Slot.{Slot}
 use Rattle.cd_field.specs.Flat.{index_of, cell_by, word_in, lost_in, IsInOrder, HasCells}
-use Rattle.cd_field.proofs.FlatLemmas.{blank, blanks_long, laid_either, open_cells, word_choice, lost_choice}
+use Rattle.cd_field.proofs.FlatLemmas.{blank, blanks_long, laid_either, whole_either, open_cells, word_choice, lost_choice}
 use Rattle.cd_field.proofs.flat_words.FlatWords.open.Goals as goal
 
 pub invariant_of-self-2 : goal.invariant_of-self-2
@@ -19,7 +19,13 @@ invariant_of-self-2 c =
     let laid : IsInOrder c.push.new.self.items × HasCells c.push.new.self.items (length after) =
     laid_either _ slots c.push.new.self.items slot (length cells) (length after) c.push.ensures.items c.args.self.now.order
     c.args.self.now.room c.requires.proper c.requires.behind first long in
-    record { order = laid.0; room = laid.1 }
+    let many : c.len.result ≡ length slots = search rules in
+    record {
+      regions = whole_either _ slots c.push.new.self.items slot c.args.self.now.whole c.is_next-self.result c.len.result many c.push.ensures.items
+          c.args.self.now.regions c.is_next-self.ensures;
+      order = laid.0;
+      room = laid.1;
+    }
 
 pub returns-clause-words : goal.returns-clause-words
 returns-clause-words c q =
