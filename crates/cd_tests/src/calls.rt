@@ -1,8 +1,7 @@
-ghost use Rattle.std.specs.Prelude.{◌<◌};
-
-use cd_app::{Words, run_cd};
+use cd_app::{Status, run_cd};
 use cd_base::{MemorySink, MemorySource, Text};
-use cd_field::MapField;
+use cd_command::Words;
+use cd_field::{Field, MapField};
 use std::alloc::Global;
 use std::test::Fail;
 
@@ -20,11 +19,16 @@ pub(crate) const RECOVERED: &str = "faults\nstrike root 1 1 flip y[0] 255\n";
 pub(crate) const EXHAUSTED: &str =
     "faults\nstrike root 1 1 flip y[0] 255\nstrike root 2 1 flip y[0] 1\n";
 
-/// What a call gave: its status as a number, and what it wrote.
+/// The line for words that give no command.
+pub(crate) const USAGE: &str =
+    "usage: cd check|read|run|make|lift [--workers N] [--record] [--size N]\n";
+
+/// What a call gave: its status as a number, what it wrote, and whether the machine's record has an event behind it.
 #[derive(Drop)]
 pub(crate) struct Answer {
     pub status: u8,
     pub written: Vec<u8>,
+    pub began: bool,
 }
 
 pub(crate) fn words_of(alloc: Global, texts: &[&str]) -> Result<Words, Fail> {
@@ -35,37 +39,61 @@ pub(crate) fn words_of(alloc: Global, texts: &[&str]) -> Result<Words, Fail> {
     Ok(words)
 }
 
-/// The call `run` on a text, whose source gives and whose sink takes `step` bytes a call. They fail at the calls with these
-/// numbers, where 0 is no call.
-pub(crate) fn run(
+/// A call with these words on a text, where nothing fails.
+pub(crate) fn call(
     alloc: Global,
+    words: &[&str],
     text: &[u8],
-    step: usize,
+    machine: &mut MapField,
+) -> Result<Answer, Fail> {
+    let words = words_of(alloc, words)?;
+    let text = Vec::from_slice(alloc, text)?;
+    let mut source = MemorySource::new(text, 4096, Vec::new(alloc));
+    let mut sink = MemorySink::new(alloc, 65536, Vec::new(alloc));
+    let status = run_cd(alloc, &words, &mut source, &mut sink, machine);
+    answered(alloc, &status, &sink, machine)
+}
+
+/// A call with these words on a text, whose source gives and whose sink takes one byte a call. They fail at the calls with
+/// these numbers, where 0 is no call.
+pub(crate) fn call_failing(
+    alloc: Global,
+    words: &[&str],
+    text: &str,
     failing_read: u64,
     failing_write: u64,
     machine: &mut MapField,
-) -> Result<Answer, Fail>
-    requires { 0 < step }
-{
-    let words = words_of(alloc, &["run"])?;
-    let text = Vec::from_slice(alloc, text)?;
-    let mut source = MemorySource::new(text, step, Vec::from_slice(alloc, &[failing_read])?);
-    let mut sink = MemorySink::new(alloc, step, Vec::from_slice(alloc, &[failing_write])?);
+) -> Result<Answer, Fail> {
+    let words = words_of(alloc, words)?;
+    let text = Vec::from_slice(alloc, text.as_bytes())?;
+    let mut source = MemorySource::new(text, 1, Vec::from_slice(alloc, &[failing_read])?);
+    let mut sink = MemorySink::new(alloc, 1, Vec::from_slice(alloc, &[failing_write])?);
     let status = run_cd(alloc, &words, &mut source, &mut sink, machine);
+    answered(alloc, &status, &sink, machine)
+}
+
+fn answered(
+    alloc: Global,
+    status: &Status,
+    sink: &MemorySink,
+    machine: &MapField,
+) -> Result<Answer, Fail> {
     Ok(Answer {
         status: status.code(),
         written: Vec::from_slice(alloc, sink.bytes())?,
+        began: machine.event(0).is_some(),
     })
 }
 
-/// The call `run` on two texts, one behind the other, where nothing fails.
-pub(crate) fn run_joined(
+/// A call with these words on two texts, one behind the other, where nothing fails.
+pub(crate) fn call_joined(
     alloc: Global,
+    words: &[&str],
     front: &str,
     back: &str,
     machine: &mut MapField,
 ) -> Result<Answer, Fail> {
     let mut text = String::from_str(alloc, front)?;
     text.push_str(back)?;
-    run(alloc, text.as_bytes(), 4096, 0, 0, machine)
+    call(alloc, words, text.as_bytes(), machine)
 }

@@ -1,8 +1,9 @@
 use crate::documents::{first_refusal, joined, read};
+use crate::texts::PRODUCT;
 use cd_base::Place;
-use cd_cover::plan;
-use cd_foot::{Footprints, disjoint};
-use cd_tree::{NodeId, Refusal, Tree};
+use cd_check::check;
+use cd_foot::Footprints;
+use cd_tree::{Document, NodeId, Refusal};
 use std::alloc::Global;
 use std::test::Fail;
 
@@ -224,29 +225,25 @@ fn members_may_share_what_they_only_read(rt: HostRuntime) -> Result<(), Fail> {
     Ok(())
 }
 
-/// The need of a domain of a program, by its number.
-fn need_of(alloc: Global, tree: &Tree, node: u32) -> Result<u32, Fail> {
-    let feet = Footprints::of(alloc, tree)?;
-    if disjoint(tree, &feet).is_err() || tree.count() <= node {
-        return Err(Fail::new("siblings interfere, or there is no such domain"));
+/// The need of a domain of a document, by its number.
+fn need_of(alloc: Global, document: &Document, node: u32) -> Result<u32, Fail> {
+    let feet = Footprints::of(alloc, &document.tree)?;
+    let Ok((plan, _)) = check(alloc, document, &feet) else {
+        return Err(Fail::new("the document is refused"));
+    };
+    if plan.tree().count() <= node {
+        return Err(Fail::new("there is no such domain"));
     }
-    match plan(alloc, tree, &feet) {
-        Ok(plan) => Ok(plan.need(NodeId(node))),
-        Err(_) => Err(Fail::new("there is no plan")),
-    }
+    Ok(plan.need(NodeId(node)))
 }
 
-/// The need of a domain of a document.
+/// The same of a text.
 fn need(alloc: Global, text: &str, node: u32) -> Result<u32, Fail> {
     match read(alloc, text)? {
-        Ok(document) => need_of(alloc, &document.tree, node),
+        Ok(document) => need_of(alloc, &document, node),
         Err(_) => Err(Fail::new("the text is refused")),
     }
 }
-
-/// The hierarchical product: 256 rows in four parts of four blocks of rows.
-const PRODUCT: &str =
-    "cd 1\nregion starts 257 iota 0 2\nregion cols 512 iota 0 1\nregion vals 512 const 3\nregion x 512 iota 1 1\nregion y 256 const 0\ndomain root retry 3 detects node\npreserve starts copy\npreserve cols copy\npreserve vals copy\npreserve x copy\npreserve y copy\ngroup\nfor a in 0..4\ndomain part:a retry 2 detects lost,link\npreserve starts[64*a..64*a+65] refer\npreserve cols refer\npreserve vals refer\npreserve x refer\npreserve y[64*a..64*a+64] copy\ngroup\nfor b in 0..4\ndomain rows:b retry 3 detects flip\npreserve starts[64*a+16*b..64*a+16*b+17] refer\npreserve cols refer\npreserve vals refer\npreserve x refer\npreserve y[64*a+16*b..64*a+16*b+16] refer\nspmv y[64*a+16*b..64*a+16*b+16] starts[64*a+16*b..64*a+16*b+17] cols vals x\nend\nend\nend\nend\nend\nend\nend\n";
 
 #[test]
 fn needs_are_counted_in_blocks(rt: HostRuntime) -> Result<(), Fail> {

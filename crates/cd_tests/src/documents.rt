@@ -1,9 +1,8 @@
 use cd_base::MemorySink;
-use cd_cover::plan;
-use cd_foot::{Footprints, disjoint};
+use cd_check::check;
+use cd_foot::Footprints;
 use cd_parse::read_document;
 use cd_print::print_document;
-use cd_script::accept;
 use cd_tree::{Document, Refusal, Refuse};
 use std::alloc::Global;
 use std::test::Fail;
@@ -39,13 +38,7 @@ pub(crate) fn first_refusal(alloc: Global, text: &str) -> Result<Option<Refusal>
 
 fn refusal_of(alloc: Global, document: &Document) -> Result<Option<Refusal>, Fail> {
     let feet = Footprints::of(alloc, &document.tree)?;
-    if let Err(refusal) = disjoint(&document.tree, &feet) {
-        return Ok(Some(refusal));
-    }
-    if let Err(refuse) = plan(alloc, &document.tree, &feet) {
-        return Ok(Some(refused(refuse)?));
-    }
-    match accept(alloc, &document.tree, &feet, &document.faults) {
+    match check(alloc, document, &feet) {
         Ok(_) => Ok(None),
         Err(refuse) => Ok(Some(refused(refuse)?)),
     }

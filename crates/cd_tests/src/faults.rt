@@ -1,54 +1,102 @@
-use crate::calls::{FILL, FILLED, run};
-use cd_field::{Field, MapField};
+use crate::calls::{FILL, FILLED, call_failing};
+use cd_field::MapField;
 use std::test::Fail;
 
 #[test]
 fn a_fault_at_any_read_runs_nothing(rt: HostRuntime) -> Result<(), Fail> {
     let alloc = rt.alloc();
-    for call in 1..=87 {
+    for word in ["run", "check", "read", "lift"] {
+        for call in 1..=87 {
+            let mut machine = MapField::empty(alloc);
+            let answer = call_failing(alloc, &[word], FILL, call, 0, &mut machine)?;
+            assert_eq!(rt; answer.status, 4, "{word} at {call}");
+            assert_eq!(rt;
+                answer.written.as_slice(),
+                b"read fault\n".as_slice(),
+                "{word} at {call}"
+            );
+            assert!(rt; !answer.began, "{word} at {call}");
+        }
         let mut machine = MapField::empty(alloc);
-        let answer = run(alloc, FILL.as_bytes(), 1, call, 0, &mut machine)?;
-        assert_eq!(rt; answer.status, 4, "at {call}");
-        assert_eq!(rt;
-            answer.written.as_slice(),
-            b"read fault\n".as_slice(),
-            "at {call}"
-        );
-        assert_eq!(rt; machine.event(0), None, "at {call}");
+        let answer = call_failing(alloc, &[word], FILL, 88, 0, &mut machine)?;
+        assert_eq!(rt; answer.status, 0, "{word}");
     }
-    let mut machine = MapField::empty(alloc);
-    let answer = run(alloc, FILL.as_bytes(), 1, 88, 0, &mut machine)?;
-    assert_eq!(rt; answer.status, 0);
     Ok(())
 }
 
+/// What each action writes of a document.
+const WRITTEN: [(&[&str], &str); 5] = [
+    (&["run"], FILLED),
+    (
+        &["run", "--record"],
+        "committed\nregion y 7 7 7 7\nbegins root 1\ntotal 1\nrecord\nbegin 0 1\nsaved 0 0 copy\nreached 0 0\nreached 0 1\nfound 0 none\ncomplete 0\n",
+    ),
+    (
+        &["check"],
+        "# accepted domains 1 items 1 entries 1 words 4 need 1 faults 0\ncd 1\nregion y 4 const 0\ndomain root retry 2 detects flip\npreserve y[0..4] copy\nfill y[0..4] 7\nend\n",
+    ),
+    (&["read"], "committed\nbegins root 1\ntotal 1\n"),
+    (
+        &["lift"],
+        "cd 2\nkind flip\nkind lost\nkind link\nkind node\nregion y 4 const 0\ndomain root retry 2 detects flip\npreserve y[0..4] copy\nfill y[0..4] 7\nend\n",
+    ),
+];
+
 #[test]
-fn a_fault_at_any_write_cuts_the_report_there(rt: HostRuntime) -> Result<(), Fail> {
+fn a_fault_at_any_write_cuts_the_text_there(rt: HostRuntime) -> Result<(), Fail> {
     let alloc = rt.alloc();
-    let report = FILLED.as_bytes();
-    assert_eq!(rt; report.len(), 49);
-    for written in 0..report.len() {
-        let call = written as u64 + 1;
+    for (words, text) in WRITTEN {
+        let text = text.as_bytes();
+        for written in 0..text.len() {
+            let call = written as u64 + 1;
+            let mut machine = MapField::empty(alloc);
+            let answer = call_failing(alloc, words, FILL, 0, call, &mut machine)?;
+            assert_eq!(rt; answer.status, 5, "at {call}");
+            assert_eq!(rt; answer.written.as_slice(), &text[..written], "at {call}");
+        }
         let mut machine = MapField::empty(alloc);
-        let answer = run(alloc, FILL.as_bytes(), 1, 0, call, &mut machine)?;
-        assert_eq!(rt; answer.status, 5, "at {call}");
-        assert_eq!(rt; answer.written.as_slice(), &report[..written], "at {call}");
+        let behind = text.len() as u64 + 1;
+        let answer = call_failing(alloc, words, FILL, 0, behind, &mut machine)?;
+        assert_eq!(rt; answer.status, 0);
+        assert_eq!(rt; answer.written.as_slice(), text);
     }
-    let mut machine = MapField::empty(alloc);
-    let answer = run(alloc, FILL.as_bytes(), 1, 0, 50, &mut machine)?;
-    assert_eq!(rt; answer.status, 0);
-    assert_eq!(rt; answer.written.as_slice(), report);
     Ok(())
 }
+
+/// Calls that write a line of their own: a word and a document, the numbers of the read and of the write that fail, the
+/// status, and what was written of the line.
+const LINES: [(&str, &str, u64, u64, u8, &str); 6] = [
+    ("run", "", 0, 4, 3, "ref"),
+    ("check", "", 0, 1, 3, ""),
+    ("run", "", 1, 5, 4, "read"),
+    ("read", "", 1, 1, 4, ""),
+    ("walk", "", 1, 6, 2, "usage"),
+    (
+        "run",
+        "cd 1\ndomain root retry 1 detects none\ndomain a retry 1 detects none\nend\nend\n",
+        0,
+        4,
+        9,
+        "not",
+    ),
+];
 
 #[test]
 fn a_fault_at_any_write_of_another_line_keeps_its_status(rt: HostRuntime) -> Result<(), Fail> {
     let alloc = rt.alloc();
-    for (failing_read, failing_write, status, written) in [(0, 4, 3, "ref"), (1, 5, 4, "read")] {
+    for (word, text, failing_read, failing_write, status, written) in LINES {
         let mut machine = MapField::empty(alloc);
-        let answer = run(alloc, b"", 1, failing_read, failing_write, &mut machine)?;
-        assert_eq!(rt; answer.status, status, "{written}");
+        let answer = call_failing(
+            alloc,
+            &[word],
+            text,
+            failing_read,
+            failing_write,
+            &mut machine,
+        )?;
+        assert_eq!(rt; answer.status, status, "{word} {written}");
         assert_eq!(rt; answer.written.as_slice(), written.as_bytes());
+        assert!(rt; !answer.began, "{word} {written}");
     }
     Ok(())
 }

@@ -3,9 +3,13 @@
 #![tactic(auto)]
 
 #[cfg(test)]
+mod actions;
+#[cfg(test)]
 mod calls;
 #[cfg(test)]
 mod checks;
+#[cfg(test)]
+mod commands;
 #[cfg(test)]
 mod documents;
 #[cfg(test)]
@@ -13,6 +17,12 @@ mod faults;
 #[cfg(test)]
 mod language;
 #[cfg(test)]
+mod largest;
+#[cfg(test)]
 mod machines;
 #[cfg(test)]
+mod refusals;
+#[cfg(test)]
 mod reports;
+#[cfg(test)]
+mod texts;

@@ -1,14 +1,25 @@
-ghost use Rattle.std.specs.Prelude.{◌≡◌, ◌<◌, IsTrue};
+ghost use Rattle.std.specs.Prelude.{◌≡◌, ◌<◌, IsTrue, IfOk, false};
 ghost use Rattle.cd_field.specs.Maps.{machine_of};
+ghost use Rattle.cd_app.specs.Running.{IsRun};
 ghost use Rattle.cd_tests.specs.Look.{HasFourWords, HasFourWordsLeft, FourArePresent, comes_behind_a_run};
 
-use crate::calls::{EXHAUSTED, FILL, RECOVERED, run_joined, words_of};
-use cd_app::{Status, Words, run_cd};
-use cd_base::{MemorySink, MemorySource, Place, Sink, Source};
+use crate::calls::{EXHAUSTED, FILL, RECOVERED, call_joined};
+use cd_app::{Status, run_cd};
+use cd_base::{MemorySink, MemorySource, Place, Sink, Source, Text};
+use cd_command::Words;
 use cd_field::{Field, MapField};
 use cd_tree::{Event, Kept, Kind, Kinds, NodeId, laws};
 use std::alloc::Global;
 use std::test::Fail;
+
+// The word `run` alone.
+fn run_alone(alloc: Global) -> Result<Words, Fail>
+    ensures { IfOk result (λ words. IsRun words false) }
+{
+    let mut words = Words::new(alloc);
+    words.push(Text::of(alloc, "run")?)?;
+    Ok(words)
+}
 
 fn comes_behind_a_run(status: &Status) -> bool
     ensures { result ≡ comes_behind_a_run status.now }
@@ -34,7 +45,8 @@ fn runs<S: Source, K: Sink, F: Field>(
     sink: &mut K,
     machine: &mut F,
 ) -> bool
-    requires { HasFourWordsLeft (S.left source.old) }
+    requires run { IsRun words.now false }
+    requires text { HasFourWordsLeft (S.left source.old) }
     ensures { IsTrue result → FourArePresent (F.state machine.new) }
 {
     laws::words_stay();
@@ -46,7 +58,7 @@ fn runs<S: Source, K: Sink, F: Field>(
 fn words_behind(alloc: Global, text: &str, failing_write: u64) -> Result<Option<[u64; 4]>, Fail>
     requires { HasFourWords text.now }
 {
-    let words = words_of(alloc, &["run"])?;
+    let words = run_alone(alloc)?;
     let text = Vec::from_slice(alloc, text.as_bytes())?;
     let mut source = MemorySource::new(text, 4096, Vec::new(alloc));
     let mut sink = MemorySink::new(alloc, 1, Vec::from_slice(alloc, &[failing_write])?);
@@ -102,7 +114,7 @@ fn a_recovered_run_leaves_its_record(rt: HostRuntime) -> Result<(), Fail> {
     let node = NodeId(0);
     let none = Kinds::none();
     let mut machine = MapField::empty(rt.alloc());
-    run_joined(rt.alloc(), FILL, RECOVERED, &mut machine)?;
+    call_joined(rt.alloc(), &["run"], FILL, RECOVERED, &mut machine)?;
     for (k, event) in [
         (0, Event::Begin { node, number: 1 }),
         (
@@ -140,7 +152,7 @@ fn an_exhausted_run_ends_with_its_refill(rt: HostRuntime) -> Result<(), Fail> {
     let node = NodeId(0);
     let kinds = Kinds::none().with(Kind(0));
     let mut machine = MapField::empty(rt.alloc());
-    run_joined(rt.alloc(), FILL, EXHAUSTED, &mut machine)?;
+    call_joined(rt.alloc(), &["run"], FILL, EXHAUSTED, &mut machine)?;
     for (k, event) in [
         (9, Event::Found { node, kinds }),
         (10, Event::Refilled { node, entry: 0 }),

@@ -1,4 +1,4 @@
-use Rattle.std.proofs.Common.{◌≡◌, List, ℕ, sym, ◌∙◌}
+use Rattle.std.proofs.Common.{◌≡◌, List, ℕ, false, sym, ◌∙◌}
 use Rattle.cd_app.specs.Running.{Call, Written, call_of, written}
 use Rattle.cd_tests.proofs.LookLemmas.{four_present}
 use Rattle.cd_tests.proofs.machines.runs.Goals as goal
@@ -10,5 +10,5 @@ returns g c =
     (g.F.Field.state c.args.machine.now) (g.F.Field.state c.run_cd-status.new.machine) in
     let sink : Written = written (g.K.Sink.holds c.args.sink.now) (g.K.Sink.holds c.run_cd-status.new.sink)
     (g.K.Sink.faults c.args.sink.now) (g.K.Sink.faults c.run_cd-status.new.sink) in
-    λ ran. four_present c.words_stay.ensures call sink c.run_cd-status.result
-    (sym c.comes_behind_a_run.ensures ∙ ran) c.run_cd-status.ensures.meets c.requires
+    λ ran. four_present c.words_stay.ensures call sink false c.run_cd-status.result c.requires.run
+    (sym c.comes_behind_a_run.ensures ∙ ran) c.run_cd-status.ensures.meets c.requires.text

@@ -1,0 +1,254 @@
+use crate::calls::{EXHAUSTED, FILL, RECOVERED, call, call_joined};
+use crate::texts::{
+    HALTED, HALTING, HALTING_FOUND, HALTING_LAST, LEAKING, LEAKING_STRUCK, MEMBERS, MEMBERS_STRUCK,
+    NESTED, NESTED_STRUCK, PRODUCT, PRODUCT_READ, PRODUCT_STRUCK, REFERRING, REFERRING_STRUCK,
+    SHARING, SHARING_STRUCK,
+};
+use cd_field::MapField;
+use std::test::Fail;
+
+/// Tries of the root that are all struck but one of the last two.
+const TRIED: &str = "\
+cd 1
+region y 4 const 0
+domain root retry 100 detects flip
+preserve y copy
+fill y 7
+end
+faults
+";
+
+/// Documents in two parts, and what is read of them.
+const READINGS: [(&str, &str, &str); 16] = [
+    (FILL, "", "committed\nbegins root 1\ntotal 1\n"),
+    (FILL, RECOVERED, "committed\nbegins root 2\ntotal 2\n"),
+    (
+        FILL,
+        EXHAUSTED,
+        "exhausted root flip\nbegins root 2\ntotal 2\n",
+    ),
+    (
+        NESTED,
+        NESTED_STRUCK,
+        "committed\nbegins root 2\nbegins root/a 2\ntotal 4\n",
+    ),
+    (
+        MEMBERS,
+        MEMBERS_STRUCK,
+        "committed\nbegins root 2\nbegins root/b 2\nbegins root/c 2\ntotal 6\n",
+    ),
+    (
+        LEAKING,
+        LEAKING_STRUCK,
+        "committed\nbegins root 2\nbegins root/a 2\ntotal 4\n",
+    ),
+    (
+        REFERRING,
+        REFERRING_STRUCK,
+        "committed\nbegins root 2\nbegins root/a 3\ntotal 5\n",
+    ),
+    (
+        SHARING,
+        SHARING_STRUCK,
+        "committed\nbegins root 1\nbegins root/b 2\nbegins root/c 1\ntotal 4\n",
+    ),
+    (PRODUCT, PRODUCT_STRUCK, PRODUCT_READ),
+    (
+        TRIED,
+        "for a in 1..100\nstrike root a 1 flip y[0] 1\nend\n",
+        "committed\nbegins root 100\ntotal 100\n",
+    ),
+    (
+        TRIED,
+        "for a in 1..101\nstrike root a 1 flip y[0] 1\nend\n",
+        "exhausted root flip\nbegins root 100\ntotal 100\n",
+    ),
+    (
+        HALTING,
+        HALTED,
+        "committed\nbegins root 2\nbegins root/a 2\ntotal 4\n",
+    ),
+    (
+        HALTING_FOUND,
+        HALTED,
+        "committed\nbegins root 1\nbegins root/a 2\ntotal 3\n",
+    ),
+    (
+        HALTING_LAST,
+        HALTED,
+        "exhausted root/a hard\nbegins root 1\nbegins root/a 1\ntotal 2\n",
+    ),
+    (
+        "cd 2\nkind seu\nregion y 4 const 0\ndomain root retry 2 detects seu\npreserve y copy\nfill y 7\nend\n",
+        "faults\nstrike root 1 1 seu y[0] 255\nstrike root 2 1 seu y[0] 1\n",
+        "exhausted root seu\nbegins root 2\ntotal 2\n",
+    ),
+    (
+        "cd 1\nregion y 4 const 0\ndomain root retry 2 detects flip\npreserve y regen const 1\n",
+        "fill y 7\nend\n",
+        "committed\nbegins root 1\ntotal 1\n",
+    ),
+];
+
+#[test]
+fn documents_are_read_through(rt: HostRuntime) -> Result<(), Fail> {
+    let alloc = rt.alloc();
+    for (front, back, written) in READINGS {
+        let mut machine = MapField::empty(alloc);
+        let answer = call_joined(alloc, &["read"], front, back, &mut machine)?;
+        assert_eq!(rt; answer.status, 0, "{front}{back}");
+        assert_eq!(rt;
+            answer.written.as_slice(),
+            written.as_bytes(),
+            "{front}{back}"
+        );
+        assert!(rt; !answer.began, "{front}{back}");
+    }
+    Ok(())
+}
+
+/// What `check` and `lift` write, for a document in two parts.
+const TEXTS: [(&str, &str, &str, &str); 7] = [
+    (
+        "check",
+        FILL,
+        "",
+        "# accepted domains 1 items 1 entries 1 words 4 need 1 faults 0\ncd 1\nregion y 4 const 0\ndomain root retry 2 detects flip\npreserve y[0..4] copy\nfill y[0..4] 7\nend\n",
+    ),
+    (
+        "check",
+        FILL,
+        RECOVERED,
+        "# accepted domains 1 items 1 entries 1 words 4 need 1 faults 1\ncd 1\nregion y 4 const 0\ndomain root retry 2 detects flip\npreserve y[0..4] copy\nfill y[0..4] 7\nend\nfaults\nstrike root 1 1 flip y[0] 255\n",
+    ),
+    (
+        "check",
+        "cd 1\nregion y 4 const 0\ndomain root retry 2 detects flip\npreserve y regen const 1\n",
+        "fill y 7\nend\n",
+        "# accepted domains 1 items 1 entries 1 words 4 need 1 faults 0\ncd 1\nregion y 4 const 0\ndomain root retry 2 detects flip\npreserve y[0..4] regen const 1\nfill y[0..4] 7\nend\n",
+    ),
+    (
+        "check",
+        HALTING,
+        HALTED,
+        "# accepted domains 2 items 2 entries 2 words 4 need 2 faults 1\ncd 2\nkind soft\nkind hard halt\nregion y 4 const 0\ndomain root retry 2 detects hard\npreserve y[0..4] copy\ndomain a retry 3 detects soft\npreserve y[0..4] copy\nfill y[0..4] 7\nend\nend\nfaults\nstrike root/a 1 0 hard y[0] 1\n",
+    ),
+    (
+        "lift",
+        FILL,
+        "",
+        "cd 2\nkind flip\nkind lost\nkind link\nkind node\nregion y 4 const 0\ndomain root retry 2 detects flip\npreserve y[0..4] copy\nfill y[0..4] 7\nend\n",
+    ),
+    (
+        "lift",
+        NESTED,
+        NESTED_STRUCK,
+        "cd 2\nkind flip\nkind lost\nkind link\nkind node\nregion y 4 const 0\ndomain root retry 2 detects node\npreserve y[0..4] copy\ndomain a retry 1 detects flip\npreserve y[0..4] copy\nfill y[0..4] 7\nend\nend\nfaults\nstrike root/a 1 1 flip y[0] 255\n",
+    ),
+    (
+        "lift",
+        HALTING,
+        HALTED,
+        "cd 2\nkind soft\nkind hard halt\nregion y 4 const 0\ndomain root retry 2 detects hard\npreserve y[0..4] copy\ndomain a retry 3 detects soft\npreserve y[0..4] copy\nfill y[0..4] 7\nend\nend\nfaults\nstrike root/a 1 0 hard y[0] 1\n",
+    ),
+];
+
+#[test]
+fn texts_are_written_and_stay_when_read_again(rt: HostRuntime) -> Result<(), Fail> {
+    let alloc = rt.alloc();
+    for (word, front, back, written) in TEXTS {
+        let mut machine = MapField::empty(alloc);
+        let first = call_joined(alloc, &[word], front, back, &mut machine)?;
+        let again = call(alloc, &[word], first.written.as_slice(), &mut machine)?;
+        for answer in [&first, &again] {
+            assert_eq!(rt; answer.status, 0, "{word} {front}{back}");
+            assert_eq!(rt;
+                answer.written.as_slice(),
+                written.as_bytes(),
+                "{word} {front}{back}"
+            );
+            assert!(rt; !answer.began, "{word} {front}{back}");
+        }
+    }
+    Ok(())
+}
+
+/// The first lines of `check`, for documents in two parts.
+const FIRST_LINES: [(&str, &str, &str); 4] = [
+    (
+        MEMBERS,
+        MEMBERS_STRUCK,
+        "# accepted domains 3 items 3 entries 4 words 8 need 4 faults 1\n",
+    ),
+    (
+        REFERRING,
+        REFERRING_STRUCK,
+        "# accepted domains 2 items 2 entries 4 words 8 need 6 faults 2\n",
+    ),
+    (
+        PRODUCT,
+        "",
+        "# accepted domains 21 items 21 entries 105 words 2049 need 653 faults 0\n",
+    ),
+    (
+        PRODUCT,
+        PRODUCT_STRUCK,
+        "# accepted domains 21 items 21 entries 105 words 2049 need 653 faults 12\n",
+    ),
+];
+
+#[test]
+fn accepted_documents_are_counted(rt: HostRuntime) -> Result<(), Fail> {
+    let alloc = rt.alloc();
+    for (front, back, line) in FIRST_LINES {
+        let mut machine = MapField::empty(alloc);
+        let answer = call_joined(alloc, &["check"], front, back, &mut machine)?;
+        assert_eq!(rt; answer.status, 0, "{line}");
+        assert!(rt;
+            answer.written.as_slice().starts_with(line.as_bytes()),
+            "{line}"
+        );
+    }
+    Ok(())
+}
+
+/// Sizes of generated documents, with their first line of `check`, and the end of what is read of them.
+const SIZES: [(&str, &str, &str); 3] = [
+    (
+        "1",
+        "# accepted domains 4 items 6 entries 20 words 260 need 28 faults 2\n",
+        "begins root 2\nbegins root/part0 2\nbegins root/part0/rows0 3\nbegins root/strip0 2\ntotal 9\n",
+    ),
+    (
+        "4",
+        "# accepted domains 25 items 27 entries 116 words 2564 need 663 faults 5\n",
+        "begins root/strip3 2\ntotal 54\n",
+    ),
+    (
+        "14",
+        "# accepted domains 225 items 227 entries 1086 words 26884 need 63703 faults 15\n",
+        "begins root/strip13 2\ntotal 464\n",
+    ),
+];
+
+#[test]
+fn made_documents_are_accepted_and_read(rt: HostRuntime) -> Result<(), Fail> {
+    let alloc = rt.alloc();
+    for (size, line, end) in SIZES {
+        let mut machine = MapField::empty(alloc);
+        let made = call(alloc, &["make", "--size", size], b"", &mut machine)?;
+        let checked = call(alloc, &["check"], made.written.as_slice(), &mut machine)?;
+        let read = call(alloc, &["read"], made.written.as_slice(), &mut machine)?;
+        assert_eq!(rt;
+            (made.status, checked.status, read.status),
+            (0, 0, 0),
+            "{size}"
+        );
+        assert!(rt;
+            checked.written.as_slice().starts_with(line.as_bytes()),
+            "{size}"
+        );
+        assert!(rt; read.written.as_slice().ends_with(end.as_bytes()), "{size}");
+    }
+    Ok(())
+}

@@ -1,0 +1,392 @@
+use crate::calls::call_joined;
+use crate::documents::joined;
+use cd_field::MapField;
+use std::test::Fail;
+
+/// A document with one domain, up to its first item.
+const ONE: &str = "region y 4 const 0\ndomain root retry 2 detects flip\npreserve y copy\n";
+
+/// Documents in two parts without their first lines, and what they are refused for in version 1, and in version 2 behind
+/// four kinds.
+const REFUSED: [(&str, &str, &str, &str); 17] = [
+    (
+        ONE,
+        "fil y 7\nend\n",
+        "refused E2 line 5\n",
+        "refused E2 line 9\n",
+    ),
+    (
+        ONE,
+        "fill y 7\n",
+        "refused E2 line 6\n",
+        "refused E2 line 10\n",
+    ),
+    (
+        ONE,
+        "fill q 7\nend\n",
+        "refused E3 line 5\n",
+        "refused E3 line 9\n",
+    ),
+    (
+        ONE,
+        "fill y[4] 7\nend\n",
+        "refused E4 line 5\n",
+        "refused E4 line 9\n",
+    ),
+    (
+        "region y 4 const 0\nregion y 1 const 0\n",
+        "domain root retry 2 detects flip\nend\n",
+        "refused E5 line 3\n",
+        "refused E5 line 7\n",
+    ),
+    (
+        ONE,
+        "copy y y[0..3]\nend\n",
+        "refused E6 line 5\n",
+        "refused E6 line 9\n",
+    ),
+    (
+        ONE,
+        "fill y 2-3\nend\n",
+        "refused E7 line 5\n",
+        "refused E7 line 9\n",
+    ),
+    (
+        "domain root retry 101 detects flip\n",
+        "end\n",
+        "refused E8 retry 101\n",
+        "refused E8 retry 101\n",
+    ),
+    (
+        "region y 4 const 0\nregion z 4 iota 10 1\ndomain root retry 2 detects node\npreserve y copy\npreserve z copy\ngroup\n",
+        "domain b retry 1 detects flip\npreserve y copy\nfill y 7\nend\ndomain c retry 1 detects flip\npreserve z copy\npreserve y[3] copy\nfill z 9\nend\nend\nend\n",
+        "refused E9 root/b root/c y[3]\n",
+        "refused E9 root/b root/c y[3]\n",
+    ),
+    (
+        "region y 4 const 0\ndomain root retry 2 detects flip\n",
+        "preserve y[0..3] copy\nfill y 7\nend\n",
+        "refused E10 root y[3]\n",
+        "refused E10 root y[3]\n",
+    ),
+    (
+        "region y 4 const 0\ndomain root retry 2 detects flip\n",
+        "preserve y refer\nfill y 7\nend\n",
+        "refused E11 root entry 0\n",
+        "refused E11 root entry 0\n",
+    ),
+    (
+        ONE,
+        "fill y 7\ndomain a retry 1 detects flip\npreserve y refer\nfill y 7\nend\nend\n",
+        "refused E12 root/a entry 0 y[0]\n",
+        "refused E12 root/a entry 0 y[0]\n",
+    ),
+    (
+        ONE,
+        "fill y 7\nend\nfaults\nstrike root/a 1 0 flip y[0] 1\nstrike root 1 1 flip y[0] 1\n",
+        "refused E13 fault 1\n",
+        "refused E13 fault 1\n",
+    ),
+    (
+        ONE,
+        "fill y 7\nend\nfaults\nstrike root 1 2 node y[0] 1\nstrike root 1 1 flip y[0] 1\n",
+        "refused E14 fault 1\n",
+        "refused E14 fault 1\n",
+    ),
+    (
+        "region y 4 const 0\nregion q 1 const 0\ndomain root retry 2 detects flip\npreserve y copy\n",
+        "fill y 7\nend\nfaults\nstrike root 1 1 flip y[0] 1\nstrike root 1 0 flip q[0] 1\n",
+        "refused E15 fault 2\n",
+        "refused E15 fault 2\n",
+    ),
+    (
+        ONE,
+        "fill y 7\nend\nfaults\nstrike root 1 0 node y[0] 1\nstrike root 1 1 flip y[0] 1\n",
+        "refused E16 fault 1\n",
+        "refused E16 fault 1\n",
+    ),
+    (
+        "region y 4 const 0\ndomain root retry 2 detects flip,seu\n",
+        "end\n",
+        "refused E2 line 3\n",
+        "refused E2 line 7\n",
+    ),
+];
+
+const KINDS: &str = "cd 2\nkind flip\nkind lost\nkind link\nkind node\n";
+
+#[test]
+fn refused_documents_are_told_by_each_action(rt: HostRuntime) -> Result<(), Fail> {
+    let alloc = rt.alloc();
+    for (front, back, first, second) in REFUSED {
+        for (head, line) in [("cd 1\n", first), (KINDS, second)] {
+            let text = joined(alloc, &[head, front])?;
+            for word in ["check", "read", "lift", "run"] {
+                let mut machine = MapField::empty(alloc);
+                let answer = call_joined(alloc, &[word], text.as_str(), back, &mut machine)?;
+                assert_eq!(rt; answer.status, 3, "{word} {head}{front}{back}");
+                assert_eq!(rt;
+                    answer.written.as_slice(),
+                    line.as_bytes(),
+                    "{word} {head}{front}{back}"
+                );
+                assert!(rt; !answer.began, "{word} {head}{front}{back}");
+            }
+        }
+    }
+    Ok(())
+}
+
+/// As many domains inside each other as there may be.
+const DEEP: &str = "\
+cd 1
+domain a retry 1 detects none
+domain a retry 1 detects none
+domain a retry 1 detects none
+domain a retry 1 detects none
+domain a retry 1 detects none
+domain a retry 1 detects none
+domain a retry 1 detects none
+domain a retry 1 detects none
+domain a retry 1 detects none
+domain a retry 1 detects none
+domain a retry 1 detects none
+domain a retry 1 detects none
+domain a retry 1 detects none
+domain a retry 1 detects none
+domain a retry 1 detects none
+domain a retry 1 detects none
+";
+
+const ENDS: &str = "\
+end
+end
+end
+end
+end
+end
+end
+end
+end
+end
+end
+end
+end
+end
+end
+end
+";
+
+/// The same with one more.
+const DEEPER: &str = "\
+domain a retry 1 detects none
+end
+end
+end
+end
+end
+end
+end
+end
+end
+end
+end
+end
+end
+end
+end
+end
+end
+";
+
+/// As many kinds as there may be.
+const ALL_KINDS: &str = "\
+cd 2
+kind a
+kind b
+kind c
+kind d
+kind e
+kind f
+kind g
+kind h
+kind i
+kind j
+kind k
+kind l
+kind m
+kind n
+kind o
+kind p
+";
+
+/// A region with as many words as there may be, and domains inside each other that keep all of them.
+const WIDE: &str = "\
+cd 1
+region y 1048576 const 0
+domain a retry 1 detects flip
+preserve y copy
+domain a retry 1 detects flip
+preserve y copy
+domain a retry 1 detects flip
+preserve y copy
+domain a retry 1 detects flip
+";
+
+/// Documents in two parts, at a limit or past one, each with its status and the first line that is written.
+const LIMITS: [(&str, &str, u8, &str); 24] = [
+    (
+        "cd 1\nfor a in 0..65532\nend\n",
+        "domain root retry 2 detects flip\nend\n",
+        0,
+        "# accepted domains 1 items 0 entries 0 words 0 need 0 faults 0\n",
+    ),
+    (
+        "cd 1\nfor a in 0..65534\nend\n",
+        "domain root retry 2 detects flip\nend\n",
+        3,
+        "refused E8 lines 65537\n",
+    ),
+    (
+        "cd 1\nregion y 4 const 0\ndomain root retry 2 detects flip\npreserve y copy\n",
+        "for a in 0..1\nfor b in 0..1\nfor c in 0..1\nfor d in 0..1\nfor e in 0..1\nfor f in 0..1\nfor g in 0..1\nfor h in 0..1\nfor i in 0..1\nfor j in 0..1\nfor k in 0..1\nfor l in 0..1\nfor m in 0..1\nfor n in 0..1\nfor o in 0..1\nfor p in 0..1\nfor q in 0..1\nfill y 7\nend\nend\nend\nend\nend\nend\nend\nend\nend\nend\nend\nend\nend\nend\nend\nend\nend\nend\n",
+        3,
+        "refused E8 nesting 17\n",
+    ),
+    (
+        "cd 1\nregion the_name_of_a_region_with_words:1 4 const 0\n",
+        "domain root retry 2 detects flip\nend\n",
+        0,
+        "# accepted domains 1 items 0 entries 0 words 4 need 0 faults 0\n",
+    ),
+    (
+        "cd 1\nregion the_name_of_a_region_with_words:12 4 const 0\n",
+        "domain root retry 2 detects flip\nend\n",
+        3,
+        "refused E8 name 33\n",
+    ),
+    (
+        ALL_KINDS,
+        "domain root retry 2 detects a,p\nend\n",
+        0,
+        "# accepted domains 1 items 0 entries 0 words 0 need 0 faults 0\n",
+    ),
+    (
+        ALL_KINDS,
+        "kind q\ndomain root retry 2 detects a\nend\n",
+        3,
+        "refused E8 kinds 17\n",
+    ),
+    (
+        "cd 2\nkind seu\nkind seu\n",
+        "domain root retry 2 detects seu\nend\n",
+        3,
+        "refused E5 line 3\n",
+    ),
+    (
+        "cd 1\nfor k in 0..65\nregion x:k 1 const 0\nend\n",
+        "domain root retry 2 detects flip\nend\n",
+        3,
+        "refused E8 regions 65\n",
+    ),
+    (
+        "cd 1\nregion x 1048576 const 0\nregion y 1 const 0\n",
+        "domain root retry 2 detects flip\nend\n",
+        3,
+        "refused E8 words 1048577\n",
+    ),
+    (
+        "cd 1\nregion x 2 const 0\nregion y 18446744073709551614 const 0\n",
+        "domain root retry 2 detects flip\nend\n",
+        3,
+        "refused E8 words 18446744073709551615\n",
+    ),
+    (
+        "cd 1\ndomain root retry 1 detects none\nfor g in 0..8\ngroup\nfor k in 0..256\n",
+        "domain w:256*g+k retry 1 detects none\nend\nend\nend\nend\nend\n",
+        3,
+        "refused E8 domains 2049\n",
+    ),
+    (
+        DEEP,
+        ENDS,
+        0,
+        "# accepted domains 16 items 15 entries 0 words 0 need 0 faults 0\n",
+    ),
+    (DEEP, DEEPER, 3, "refused E8 depth 17\n"),
+    (
+        "cd 1\nregion y 4 const 0\ndomain root retry 2 detects flip\npreserve y copy\n",
+        "for a in 0..16384\nfill y a\nend\nend\n",
+        0,
+        "# accepted domains 1 items 16384 entries 1 words 4 need 1 faults 0\n",
+    ),
+    (
+        "cd 1\nregion y 4 const 0\ndomain root retry 2 detects flip\npreserve y copy\n",
+        "for a in 0..16385\nfill y a\nend\nend\n",
+        3,
+        "refused E8 items 16385\n",
+    ),
+    (
+        "cd 1\nregion y 4 const 0\ndomain root retry 1 detects none\n",
+        "for a in 0..65\npreserve y copy\nend\nend\n",
+        3,
+        "refused E8 entries 65\n",
+    ),
+    (
+        "cd 1\nregion y 4 const 0\ndomain root retry 1 detects none\npreserve y copy\ngroup\nfor a in 0..256\ndomain w:a retry 1 detects none\n",
+        "for b in 0..64\npreserve y[0] refer\nend\nend\nend\nend\nend\n",
+        3,
+        "refused E8 preserves 16385\n",
+    ),
+    (
+        "cd 1\ndomain root retry 1 detects none\ngroup\nfor a in 0..257\n",
+        "domain w:a retry 1 detects none\nend\nend\nend\nend\n",
+        3,
+        "refused E8 members 257\n",
+    ),
+    (
+        "cd 1\ndomain root retry 100 detects none\n",
+        "domain a retry 0 detects none\nend\nend\n",
+        3,
+        "refused E8 retry 0\n",
+    ),
+    (
+        "cd 1\nregion y 4 const 0\ndomain root retry 2 detects flip\npreserve y copy\nend\n",
+        "faults\nfor a in 0..256\nstrike root a 0 flip y[0] 1\nend\n",
+        0,
+        "# accepted domains 1 items 0 entries 1 words 4 need 1 faults 256\n",
+    ),
+    (
+        "cd 1\nregion y 4 const 0\ndomain root retry 2 detects flip\npreserve y copy\nend\n",
+        "faults\nfor a in 0..257\nstrike root a 0 flip y[0] 1\nend\n",
+        3,
+        "refused E8 faults 257\n",
+    ),
+    (
+        WIDE,
+        "preserve y copy\nend\nend\nend\nend\n",
+        0,
+        "# accepted domains 4 items 3 entries 4 words 1048576 need 65536 faults 0\n",
+    ),
+    (
+        WIDE,
+        "preserve y copy\ndomain a retry 1 detects flip\npreserve y[0] copy\nend\nend\nend\nend\nend\n",
+        3,
+        "refused E8 need 65537\n",
+    ),
+];
+
+#[test]
+fn limits_are_kept_and_told(rt: HostRuntime) -> Result<(), Fail> {
+    let alloc = rt.alloc();
+    for (front, back, status, line) in LIMITS {
+        let mut machine = MapField::empty(alloc);
+        let answer = call_joined(alloc, &["check"], front, back, &mut machine)?;
+        assert_eq!(rt; answer.status, status, "{front}{back}");
+        assert!(rt;
+            answer.written.as_slice().starts_with(line.as_bytes()),
+            "{front}{back}"
+        );
+    }
+    Ok(())
+}
