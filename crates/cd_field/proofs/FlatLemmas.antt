@@ -1,4 +1,4 @@
--- A flat list of words and its table: where a word stands, and what a change of one cell does.
+-- A flat list of words and its table: where a word stands, and what a change of one item does.
 use Rattle.std.proofs.Common.{◌≡◌, ℕ, zero, suc, ◌+◌, ◌-◌, ◌<◌, ◌≤◌, ◌⊎◌, Bool, true, false, ◌&&◌, ◌||◌, nat_lt, nat_le, ◌==◌, cond, if◌then◌else◌, List, [], ◌∷◌, ◌++◌, length, set, replicate, ◌≢◌, IsSome, Option, None, Some, arith, refl, ap, subst, sym, ◌∙◌, inl, inr, append_assoc}
 use Rattle.std.specs.Prelude.{slice_get}
 use Rattle.std.proofs.lemmas.List.{get_or-set_same, get_or-set_other, length-set, length-append, replicate-append-replicate, get_or_append_left, get_or-append-add, get_or_push, get_or-replicate, length-replicate}
@@ -9,10 +9,9 @@ use Rattle.cd_base.specs.declared.place.Place.{Place}
 use Rattle.cd_base.specs.declared.place.Range.{Range}
 use Rattle.cd_base.specs.Words.{same_place, in_range}
 use Rattle.cd_tree.specs.Operations.{length_of}
-use Rattle.cd_field.specs.declared.flat_words.Cell.{Cell}
 use Rattle.cd_field.specs.declared.flat_words.Slot.{Slot}
 use Rattle.cd_field.proofs.PlaceLemmas.{same_place-eq}
-use Rattle.cd_field.specs.Flat.{index_of, cell_by, word_in, lost_in, slot_at, no_slot, is_behind, IsInOrder, HasCells, IsWhole}
+use Rattle.cd_field.specs.Flat.{index_of, item_by, is_lost, slot_at, no_slot, is_behind, IsInOrder, HasRoom, IsWhole}
 
 -- ---- choices
 
@@ -177,9 +176,9 @@ index_found (slot ∷ slots) p i e =
     record { k = suc later.k; short = (let s : later.k < length slots = later.short in omega arith); has = later.has; is = later.is })
 
 -- no two places stand at one index
-pub index_one : (slots : List Slot) (count : ℕ) (p q : Place) (i : ℕ) → HasCells slots count → index_of slots p ≡ Some i → index_of slots q ≡ Some i
+pub index_one : (slots : List Slot) (count : ℕ) (p q : Place) (i : ℕ) → HasRoom slots count → index_of slots p ≡ Some i → index_of slots q ≡ Some i
     → same_place p q ≡ true
-index_one slots count p q i cells at_p at_q =
+index_one slots count p q i own at_p at_q =
     let a : Found slots p i = index_found slots p i at_p in
     let b : Found slots q i = index_found slots q i at_q in
     let r : Range = (slot_at slots a.k).range in
@@ -193,9 +192,9 @@ index_one slots count p q i cells at_p at_q =
     let a_is : (slot_at slots a.k).first + (p.index - r.low) ≡ i = a.is in
     let b_is : (slot_at slots b.k).first + (q.index - s.low) ≡ i = b.is in
     elim (cases_lt a.k b.k) [
-      | inl l ↦ absurd (let e : (slot_at slots a.k).first + (r.high - r.low) ≤ (slot_at slots b.k).first = cells.apart a.k b.k l b.short in omega arith)
+      | inl l ↦ absurd (let e : (slot_at slots a.k).first + (r.high - r.low) ≤ (slot_at slots b.k).first = own.apart a.k b.k l b.short in omega arith)
       | inr l ↦ elim (cases_lt b.k a.k) [
-        | inl m ↦ absurd (let e : (slot_at slots b.k).first + (s.high - s.low) ≤ (slot_at slots a.k).first = cells.apart b.k a.k m a.short in omega arith)
+        | inl m ↦ absurd (let e : (slot_at slots b.k).first + (s.high - s.low) ≤ (slot_at slots a.k).first = own.apart b.k a.k m a.short in omega arith)
         | inr m ↦
             let k : a.k ≡ b.k = omega arith in
             let same : slot_at slots a.k ≡ slot_at slots b.k = ap (slot_at slots) k in
@@ -249,16 +248,16 @@ index_in_slot slots p k slot order short is has =
     apart_behind (slot_at slots j).range (slot_at slots k).range p (order.order j k before short) t in
     cc))))
 
--- ---- a change of one cell
+-- ---- a change of one item
 
-pub cell_there : (cells : List Cell) (i : ℕ) → IsSome (word_in (slice_get cells i)) → i < length cells
-cell_there cells i some =
-    elim (cases_lt i (length cells)) [
+pub item_there : {A : Type 0} (items : List A) (i : ℕ) → IsSome (slice_get items i) → i < length items
+item_there {A} items i some =
+    elim (cases_lt i (length items)) [
       | inl l ↦ l
       | inr l ↦
-          let none : slice_get cells i ≡ None = slice_get_past cells i l in
-          let P : Option Cell → Type 0 = λ o. IsSome (word_in o) in
-          let no : IsSome (word_in None) = subst P none some in
+          let none : slice_get items i ≡ None = slice_get_past items i l in
+          let P : Option A → Type 0 = λ o. IsSome o in
+          let no : P None = subst P none some in
           absurd (cc)
     ]
 
@@ -267,10 +266,10 @@ pub record IsThere (slots : List Slot) (p : Place) : Type 0 where
   pub short : p.region < length slots
   pub stands : index_of slots p ≡ Some ((slot_at slots p.region).first + p.index)
 
-pub stands_whole : (slots : List Slot) (cells : List Cell) (p : Place) (o : Option ℕ) → IsWhole slots → index_of slots p ≡ o
-    → IsSome (word_in (cell_by cells o)) → IsThere slots p
-stands_whole slots cells p None whole e some = absurd (cc)
-stands_whole slots cells p (Some i) whole e some =
+pub stands_whole : {A : Type 0} (slots : List Slot) (items : List A) (p : Place) (o : Option ℕ) → IsWhole slots → index_of slots p ≡ o
+    → IsSome (item_by items o) → IsThere slots p
+stands_whole {A} slots items p None whole e some = absurd (cc)
+stands_whole {A} slots items p (Some i) whole e some =
     let f : Found slots p i = index_found slots p i e in
     let inside : Inside (slot_at slots f.k).range p = inside_from (slot_at slots f.k).range p f.has in
     let region : f.k ≡ p.region = sym (whole.region f.k f.short) ∙ inside.region in
@@ -282,55 +281,49 @@ stands_whole slots cells p (Some i) whole e some =
     let first : (slot_at slots p.region).first + p.index ≡ i = subst Q region there in
     record { short = subst P region f.short; stands = e ∙ ap (λ (n : ℕ). Some n) (sym first) }
 
-pub stands_within : (slots : List Slot) (cells : List Cell) (p : Place) (i : ℕ) → index_of slots p ≡ Some i
-    → IsSome (word_in (cell_by cells (index_of slots p))) → i < length cells
-stands_within slots cells p i e some =
-    let P : Option ℕ → Type 0 = λ o. IsSome (word_in (cell_by cells o)) in
-    cell_there cells i (subst P e some)
+pub stands_within : {A : Type 0} (slots : List Slot) (items : List A) (p : Place) (i : ℕ) → index_of slots p ≡ Some i
+    → IsSome (item_by items (index_of slots p)) → i < length items
+stands_within {A} slots items p i e some =
+    let P : Option ℕ → Type 0 = λ o. IsSome (item_by items o) in
+    item_there items i (subst P e some)
 
-cell_same : (cells : List Cell) (i : ℕ) (cell : Cell) → i < length cells → slice_get (set cells i cell) i ≡ Some cell
-cell_same cells i cell short =
-    let long : i < length (set cells i cell) = omega (arith, length-set cells i cell) in
-    slice_get-get_or (set cells i cell) i cell long ∙ ap (λ (v : Cell). Some v) (get_or-set_same cells i cell cell short)
+item_same : {A : Type 0} (items : List A) (i : ℕ) (item : A) → i < length items → slice_get (set items i item) i ≡ Some item
+item_same {A} items i item short =
+    let long : i < length (set items i item) = omega (arith, length-set items i item) in
+    slice_get-get_or (set items i item) i item long ∙ ap (λ (v : A). Some v) (get_or-set_same items i item item short)
 
-cell_apart : (cells : List Cell) (i j : ℕ) (cell : Cell) → j ≢ i → slice_get (set cells i cell) j ≡ slice_get cells j
-cell_apart cells i j cell apart =
-    elim (cases_lt j (length cells)) [
+item_apart : {A : Type 0} (items : List A) (i j : ℕ) (item : A) → j ≢ i → slice_get (set items i item) j ≡ slice_get items j
+item_apart {A} items i j item apart =
+    elim (cases_lt j (length items)) [
       | inl l ↦
-          let long : j < length (set cells i cell) = omega (arith, length-set cells i cell) in
-          slice_get-get_or (set cells i cell) j cell long
-          ∙ ap (λ (v : Cell). Some v) (get_or-set_other cells i j cell cell apart)
-          ∙ sym (slice_get-get_or cells j cell l)
+          let long : j < length (set items i item) = omega (arith, length-set items i item) in
+          slice_get-get_or (set items i item) j item long
+          ∙ ap (λ (v : A). Some v) (get_or-set_other items i j item item apart)
+          ∙ sym (slice_get-get_or items j item l)
       | inr l ↦
-          let past : length (set cells i cell) ≤ j = omega (arith, length-set cells i cell) in
-          slice_get_past (set cells i cell) j past ∙ sym (slice_get_past cells j l)
+          let past : length (set items i item) ≤ j = omega (arith, length-set items i item) in
+          slice_get_past (set items i item) j past ∙ sym (slice_get_past items j l)
     ]
 
-cell_other : (cells : List Cell) (i : ℕ) (cell : Cell) (o : Option ℕ) → (o ≡ Some i → ⊥)
-    → cell_by (set cells i cell) o ≡ cell_by cells o
-cell_other cells i cell None apart = refl
-cell_other cells i cell (Some j) apart = cell_apart cells i j cell (λ e. apart (ap (λ (n : ℕ). Some n) e))
+item_other : {A : Type 0} (items : List A) (i : ℕ) (item : A) (o : Option ℕ) → (o ≡ Some i → ⊥)
+    → item_by (set items i item) o ≡ item_by items o
+item_other {A} items i item None apart = refl
+item_other {A} items i item (Some j) apart = item_apart items i j item (λ e. apart (ap (λ (n : ℕ). Some n) e))
 
-pub cell_set : (slots : List Slot) (cells : List Cell) (p q : Place) (i : ℕ) (cell : Cell) → HasCells slots (length cells)
-    → index_of slots p ≡ Some i → IsSome (word_in (cell_by cells (index_of slots p)))
-    → cell_by (set cells i cell) (index_of slots q) ≡ (if same_place p q then Some cell else cell_by cells (index_of slots q))
-cell_set slots cells p q i cell own at_p some =
-    let P : Option ℕ → Type 0 = λ o. IsSome (word_in (cell_by cells o)) in
-    let short : i < length cells = cell_there cells i (subst P at_p some) in
+pub item_set : {A : Type 0} (slots : List Slot) (items : List A) (p q : Place) (i : ℕ) (item : A) → HasRoom slots (length items)
+    → index_of slots p ≡ Some i → i < length items
+    → item_by (set items i item) (index_of slots q) ≡ (if same_place p q then Some item else item_by items (index_of slots q))
+item_set {A} slots items p q i item own at_p short =
     by_test (same_place p q)
     (λ t. let at_q : index_of slots q ≡ Some i = sym (ap (index_of slots) (same_place-eq p q t)) ∙ at_p in
-    ap (cell_by (set cells i cell)) at_q ∙ cell_same cells i cell short
-    ∙ sym (chosen (same_place p q) (Some cell) (cell_by cells (index_of slots q)) t))
-    (λ f. cell_other cells i cell (index_of slots q) (λ at_q. let t : same_place p q ≡ true = index_one slots (length cells) p q i own at_p at_q in cc)
-    ∙ sym (other (same_place p q) (Some cell) (cell_by cells (index_of slots q)) f))
+    ap (item_by (set items i item)) at_q ∙ item_same items i item short
+    ∙ sym (chosen (same_place p q) (Some item) (item_by items (index_of slots q)) t))
+    (λ f. item_other items i item (index_of slots q) (λ at_q. let t : same_place p q ≡ true = index_one slots (length items) p q i own at_p at_q in cc)
+    ∙ sym (other (same_place p q) (Some item) (item_by items (index_of slots q)) f))
 
-pub word_choice : (b : Bool) (cell : Cell) (o : Option Cell) → word_in (if b then Some cell else o) ≡ (if b then Some cell.word else word_in o)
-word_choice true cell o = refl
-word_choice false cell o = refl
-
-pub lost_choice : (b : Bool) (cell : Cell) (o : Option Cell) → lost_in (if b then Some cell else o) ≡ (if b then cell.lost else lost_in o)
-lost_choice true cell o = refl
-lost_choice false cell o = refl
+pub lost_choice : (b lost : Bool) (o : Option Bool) → is_lost (if b then Some lost else o) ≡ (if b then lost else is_lost o)
+lost_choice true lost o = refl
+lost_choice false lost o = refl
 
 -- ---- one slot more
 
@@ -354,52 +347,52 @@ pushed_new (first ∷ slots) slot q e =
     (λ t. let no : Some (first.first + (q.index - first.range.low)) ≡ None = sym (chosen (in_range first.range q) _ _ t) ∙ e in absurd (cc))
     (λ f. other (in_range first.range q) _ _ f ∙ pushed_new slots slot q (sym (other (in_range first.range q) _ _ f) ∙ e))
 
-kept_cell : (cells more : List Cell) (i : ℕ) (d : Cell) → i < length cells → slice_get (cells ++ more) i ≡ slice_get cells i
-kept_cell cells more i d short =
-    slice_get-get_or (cells ++ more) i d (omega (arith, length-append cells more))
-    ∙ ap (λ (v : Cell). Some v) (get_or_append_left cells more d i short)
-    ∙ sym (slice_get-get_or cells i d short)
+kept_item : {A : Type 0} (items more : List A) (i : ℕ) (d : A) → i < length items → slice_get (items ++ more) i ≡ slice_get items i
+kept_item {A} items more i d short =
+    slice_get-get_or (items ++ more) i d (omega (arith, length-append items more))
+    ∙ ap (λ (v : A). Some v) (get_or_append_left items more d i short)
+    ∙ sym (slice_get-get_or items i d short)
 
-new_cell : (cells : List Cell) (cell : Cell) (n i : ℕ) → i < n → slice_get (cells ++ replicate n cell) (length cells + i) ≡ Some cell
-new_cell cells cell n i short =
-    slice_get-get_or (cells ++ replicate n cell) (length cells + i) cell
-    (omega (arith, length-append cells (replicate n cell), length-replicate n cell))
-    ∙ ap (λ (v : Cell). Some v) (get_or-append-add cells (replicate n cell) i cell ∙ get_or-replicate n i cell cell short)
+new_item : {A : Type 0} (items : List A) (item : A) (n i : ℕ) → i < n → slice_get (items ++ replicate n item) (length items + i) ≡ Some item
+new_item {A} items item n i short =
+    slice_get-get_or (items ++ replicate n item) (length items + i) item
+    (omega (arith, length-append items (replicate n item), length-replicate n item))
+    ∙ ap (λ (v : A). Some v) (get_or-append-add items (replicate n item) i item ∙ get_or-replicate n i item item short)
 
 -- each slot's range ends before this one
 abbrev AllBehind : List Slot → Range → Type 0
 AllBehind slots r = (k : ℕ) → k < length slots → is_behind (slot_at slots k).range r ≡ true
 
-pub opened : (slots : List Slot) (cells : List Cell) (r : Range) (cell : Cell) (q : Place) → HasCells slots (length cells)
+pub opened : {A : Type 0} (slots : List Slot) (items : List A) (r : Range) (item : A) (q : Place) → HasRoom slots (length items)
     → AllBehind slots r
-    → cell_by (cells ++ replicate (length_of r) cell) (index_of (slots ++ record { range = r; first = length cells } ∷ []) q)
-    ≡ (if in_range r q then Some cell else cell_by cells (index_of slots q))
-opened slots cells r cell q own behind =
-    let slot : Slot = record { range = r; first = length cells } in
-    let all : List Cell = cells ++ replicate (length_of r) cell in
+    → item_by (items ++ replicate (length_of r) item) (index_of (slots ++ record { range = r; first = length items } ∷ []) q)
+    ≡ (if in_range r q then Some item else item_by items (index_of slots q))
+opened {A} slots items r item q own behind =
+    let slot : Slot = record { range = r; first = length items } in
+    let all : List A = items ++ replicate (length_of r) item in
     by_option (index_of slots q)
     (λ none. by_test (in_range r q)
-    (λ t. let at : index_of (slots ++ slot ∷ []) q ≡ Some (length cells + (q.index - r.low)) =
+    (λ t. let at : index_of (slots ++ slot ∷ []) q ≡ Some (length items + (q.index - r.low)) =
     pushed_new slots slot q none ∙ chosen (in_range r q) _ _ t in
     let i : Inside r q = inside_from r q t in
     let low : r.low ≤ q.index = i.low in
     let high : q.index < r.high = i.high in
-    ap (cell_by all) at ∙ new_cell cells cell (length_of r) (q.index - r.low) (omega arith)
-    ∙ sym (chosen (in_range r q) (Some cell) (cell_by cells (index_of slots q)) t))
+    ap (item_by all) at ∙ new_item items item (length_of r) (q.index - r.low) (omega arith)
+    ∙ sym (chosen (in_range r q) (Some item) (item_by items (index_of slots q)) t))
     (λ f. let at : index_of (slots ++ slot ∷ []) q ≡ None = pushed_new slots slot q none ∙ other (in_range r q) _ _ f in
-    ap (cell_by all) at ∙ sym (ap (cell_by cells) none)
-    ∙ sym (other (in_range r q) (Some cell) (cell_by cells (index_of slots q)) f)))
+    ap (item_by all) at ∙ sym (ap (item_by items) none)
+    ∙ sym (other (in_range r q) (Some item) (item_by items (index_of slots q)) f)))
     (λ i at. let found : Found slots q i = index_found slots q i at in
     let here : Range = (slot_at slots found.k).range in
     let in_here : Inside here q = inside_from here q found.has in
     let low : here.low ≤ q.index = in_here.low in
     let high : q.index < here.high = in_here.high in
     let is : (slot_at slots found.k).first + (q.index - here.low) ≡ i = found.is in
-    let room : (slot_at slots found.k).first + (here.high - here.low) ≤ length cells = own.room found.k found.short in
+    let room : (slot_at slots found.k).first + (here.high - here.low) ≤ length items = own.room found.k found.short in
     let not : in_range r q ≡ false = apart_behind here r q (behind found.k found.short) found.has in
-    ap (cell_by all) (pushed_old slots slot q i at) ∙ kept_cell cells (replicate (length_of r) cell) i cell (omega arith)
-    ∙ sym (ap (cell_by cells) at)
-    ∙ sym (other (in_range r q) (Some cell) (cell_by cells (index_of slots q)) not))
+    ap (item_by all) (pushed_old slots slot q i at) ∙ kept_item items (replicate (length_of r) item) i item (omega arith)
+    ∙ sym (ap (item_by items) at)
+    ∙ sym (other (in_range r q) (Some item) (item_by items (index_of slots q)) not))
 
 slot_old : (slots : List Slot) (slot : Slot) (k : ℕ) → k < length slots → slot_at (slots ++ slot ∷ []) k ≡ slot_at slots k
 slot_old slots slot k short = get_or_append_left slots (slot ∷ []) no_slot k short
@@ -439,9 +432,9 @@ order_pushed slots slot order proper behind = record {
       ]);
 }
 
-pub cells_pushed : (slots : List Slot) (slot : Slot) (count more : ℕ) → HasCells slots count → slot.first ≡ count
-    → count + length_of slot.range ≤ more → HasCells (slots ++ slot ∷ []) more
-cells_pushed slots slot count more own first room = record {
+pub room_pushed : (slots : List Slot) (slot : Slot) (count more : ℕ) → HasRoom slots count → slot.first ≡ count
+    → count + length_of slot.range ≤ more → HasRoom (slots ++ slot ∷ []) more
+room_pushed slots slot count more own first room = record {
   apart = λ j k before short.
       let j_short : j < length slots = omega (arith, length-append slots (slot ∷ [])) in
       let P : Slot → Type 0 = λ s. s.first + length_of s.range ≤ (slot_at (slots ++ slot ∷ []) k).first in
@@ -461,8 +454,8 @@ cells_pushed slots slot count more own first room = record {
       (λ k short. omega (arith, own.room k short, room)) (omega (arith, first, room));
 }
 
-pub cells_more : (slots : List Slot) (count more : ℕ) → HasCells slots count → count ≤ more → HasCells slots more
-cells_more slots count more own long = record {
+pub room_more : (slots : List Slot) (count more : ℕ) → HasRoom slots count → count ≤ more → HasRoom slots more
+room_more slots count more own long = record {
   apart = own.apart;
   room = λ k short. omega (arith, own.room k short, long);
 }
@@ -489,40 +482,37 @@ whole_either true slots later slot was now count all is whole next t =
     subst IsWhole (sym is) (whole_pushed slots slot (whole n.0) (n.1 ∙ all) n.2)
 whole_either false slots later slot was now count all is whole next t = subst IsWhole (sym is) (whole (next t).0)
 
--- ---- cells with 0
+-- ---- blanks
 
-abbrev pub blank : Cell
-blank = record { word = 0; lost = false }
-
-pub blank_more : (old cells later : List Cell) (n : ℕ) → cells ≡ old ++ replicate n blank → later ≡ cells ++ blank ∷ []
+pub blank_more : {A : Type 0} (blank : A) (old items later : List A) (n : ℕ) → items ≡ old ++ replicate n blank → later ≡ items ++ blank ∷ []
     → later ≡ old ++ replicate (n + 1) blank
-blank_more old cells later n before after =
-    after ∙ ap (λ (v : List Cell). v ++ blank ∷ []) before ∙ append_assoc old (replicate n blank) (blank ∷ [])
-    ∙ ap (λ (v : List Cell). old ++ v) (replicate-append-replicate n 1 blank)
+blank_more {A} blank old items later n before after =
+    after ∙ ap (λ (v : List A). v ++ blank ∷ []) before ∙ append_assoc old (replicate n blank) (blank ∷ [])
+    ∙ ap (λ (v : List A). old ++ v) (replicate-append-replicate n 1 blank)
 
 -- the table after a push that may have failed
 pub laid_either : (pushed : Bool) (slots later : List Slot) (slot : Slot) (count more : ℕ)
-    → later ≡ (if pushed then slots ++ slot ∷ [] else slots) → IsInOrder slots → HasCells slots count
+    → later ≡ (if pushed then slots ++ slot ∷ [] else slots) → IsInOrder slots → HasRoom slots count
     → slot.range.low ≤ slot.range.high → AllBehind slots slot.range → slot.first ≡ count → more ≡ count + length_of slot.range
-    → IsInOrder later × HasCells later more
+    → IsInOrder later × HasRoom later more
 laid_either true slots later slot count more is order own proper behind first room =
-    let P : List Slot → Type 0 = λ v. IsInOrder v × HasCells v more in
-    subst P (sym is) (order_pushed slots slot order proper behind, cells_pushed slots slot count more own first (omega (arith, room)))
+    let P : List Slot → Type 0 = λ v. IsInOrder v × HasRoom v more in
+    subst P (sym is) (order_pushed slots slot order proper behind, room_pushed slots slot count more own first (omega (arith, room)))
 laid_either false slots later slot count more is order own proper behind first room =
-    let P : List Slot → Type 0 = λ v. IsInOrder v × HasCells v more in
-    subst P (sym is) (order, cells_more slots count more own (omega (arith, room)))
+    let P : List Slot → Type 0 = λ v. IsInOrder v × HasRoom v more in
+    subst P (sym is) (order, room_more slots count more own (omega (arith, room)))
 
--- the cells that places have once a range is open
-pub open_cells : (slots later : List Slot) (cells after : List Cell) (r : Range) (first : ℕ) (q : Place) → HasCells slots (length cells)
-    → AllBehind slots r → first ≡ length cells → later ≡ slots ++ record { range = r; first = first } ∷ []
-    → after ≡ cells ++ replicate (length_of r) blank
-    → cell_by after (index_of later q) ≡ (if in_range r q then Some blank else cell_by cells (index_of slots q))
-open_cells slots later cells after r first q own behind at is added =
-    ap (λ (v : List Slot). cell_by after (index_of v q)) is
-    ∙ ap (λ (v : List Cell). cell_by v (index_of (slots ++ record { range = r; first = first } ∷ []) q)) added
-    ∙ ap (λ (n : ℕ). cell_by (cells ++ replicate (length_of r) blank) (index_of (slots ++ record { range = r; first = n } ∷ []) q)) at
-    ∙ opened slots cells r blank q own behind
+-- the items that places have once a range is open
+pub open_items : {A : Type 0} (blank : A) (slots later : List Slot) (items after : List A) (r : Range) (first : ℕ) (q : Place) → HasRoom slots (length items)
+    → AllBehind slots r → first ≡ length items → later ≡ slots ++ record { range = r; first = first } ∷ []
+    → after ≡ items ++ replicate (length_of r) blank
+    → item_by after (index_of later q) ≡ (if in_range r q then Some blank else item_by items (index_of slots q))
+open_items {A} blank slots later items after r first q own behind at is added =
+    ap (λ (v : List Slot). item_by after (index_of v q)) is
+    ∙ ap (λ (v : List A). item_by v (index_of (slots ++ record { range = r; first = first } ∷ []) q)) added
+    ∙ ap (λ (n : ℕ). item_by (items ++ replicate (length_of r) blank) (index_of (slots ++ record { range = r; first = n } ∷ []) q)) at
+    ∙ opened slots items r blank q own behind
 
-pub blanks_long : (cells after : List Cell) (n : ℕ) → after ≡ cells ++ replicate n blank → length after ≡ length cells + n
-blanks_long cells after n is =
-    ap length is ∙ length-append cells (replicate n blank) ∙ ap (λ (k : ℕ). length cells + k) (length-replicate n blank)
+pub blanks_long : {A : Type 0} (blank : A) (items after : List A) (n : ℕ) → after ≡ items ++ replicate n blank → length after ≡ length items + n
+blanks_long {A} blank items after n is =
+    ap length is ∙ length-append items (replicate n blank) ∙ ap (λ (k : ℕ). length items + k) (length-replicate n blank)

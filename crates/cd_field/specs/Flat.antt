@@ -1,10 +1,9 @@
--- Words in one flat list, with a table of the ranges whose words they are; and the machine that is made of them.
+-- Words in one flat list, beside it whether each is away, with a table of the ranges whose words they are; and the machine that is made of them.
 use Rattle.std.specs.Prelude.{◌≡◌, ℕ, ◌+◌, ◌-◌, ◌<◌, ◌≤◌, Bool, true, false, ◌&&◌, ◌||◌, nat_lt, nat_le, ◌==◌, List, [], ◌∷◌, length, Option, None, Some, slice_get, slice_index_or, if◌then◌else◌}
 use Rattle.cd_base.specs.declared.place.Place.{Place}
 use Rattle.cd_base.specs.declared.place.Range.{Range}
 use Rattle.cd_base.specs.Words.{Words, PlaceSet, in_range}
 use Rattle.cd_tree.specs.Operations.{length_of}
-use Rattle.cd_field.specs.declared.flat_words.Cell.{Cell}
 use Rattle.cd_field.specs.declared.flat_words.Slot.{Slot}
 
 -- where in the list the word of a place stands
@@ -13,25 +12,21 @@ index_of [] p = None
 index_of (slot ∷ slots) p =
     if in_range slot.range p then Some (slot.first + (p.index - slot.range.low)) else index_of slots p
 
-abbrev pub cell_by : List Cell → Option ℕ → Option Cell
-cell_by cells None = None
-cell_by cells (Some i) = slice_get cells i
+abbrev pub item_by : {A : Type 0} → List A → Option ℕ → Option A
+item_by {A} items None = None
+item_by {A} items (Some i) = slice_get items i
 
-abbrev pub word_in : Option Cell → Option ℕ
-word_in None = None
-word_in (Some cell) = Some cell.word
-
-abbrev pub lost_in : Option Cell → Bool
-lost_in None = false
-lost_in (Some cell) = cell.lost
+abbrev pub is_lost : Option Bool → Bool
+is_lost None = false
+is_lost (Some lost) = lost
 
 -- the words of the table's places
-abbrev pub flat_words : List Slot → List Cell → Words
-flat_words slots cells = λ p. word_in (cell_by cells (index_of slots p))
+abbrev pub flat_words : List Slot → List ℕ → Words
+flat_words slots words = λ p. item_by words (index_of slots p)
 
 -- those of them that are away
-abbrev pub flat_lost : List Slot → List Cell → PlaceSet
-flat_lost slots cells = λ p. lost_in (cell_by cells (index_of slots p))
+abbrev pub flat_lost : List Slot → List Bool → PlaceSet
+flat_lost slots away = λ p. is_lost (item_by away (index_of slots p))
 
 abbrev pub no_slot : Slot
 no_slot = record { range = record { region = 0; low = 0; high = 0 }; first = 0 }
@@ -49,8 +44,8 @@ pub record IsInOrder (slots : List Slot) : Type 0 where
   pub proper : (k : ℕ) → k < length slots → (slot_at slots k).range.low ≤ (slot_at slots k).range.high
   pub order : (j k : ℕ) → j < k → k < length slots → is_behind (slot_at slots j).range (slot_at slots k).range ≡ true
 
--- each slot has cells of its own, and all are there
-pub record HasCells (slots : List Slot) (count : ℕ) : Type 0 where
+-- each slot has words of its own, and all are there
+pub record HasRoom (slots : List Slot) (count : ℕ) : Type 0 where
   pub apart : (j k : ℕ) → j < k → k < length slots → (slot_at slots j).first + length_of (slot_at slots j).range ≤ (slot_at slots k).first
   pub room : (k : ℕ) → k < length slots → (slot_at slots k).first + length_of (slot_at slots k).range ≤ count
 

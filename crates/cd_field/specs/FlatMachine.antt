@@ -6,8 +6,8 @@ use Rattle.cd_field.specs.Machine.{Machine}
 
 abbrev pub flat_machine : ScriptField → Machine
 flat_machine field = record {
-  words = flat_words field.words.slots.items field.words.cells.items;
-  lost = flat_lost field.words.slots.items field.words.cells.items;
+  words = flat_words field.words.slots.items field.words.words.items;
+  lost = flat_lost field.words.slots.items field.words.away.items;
   events = events_of field.events.parts.parts.items field.events.latest.items;
   notes = field.notes;
   script = field.script.items;

@@ -15,8 +15,8 @@ use std::alloc::Global;
 // The words that regions begin with.
 pub(crate) fn first_flat(alloc: Global, regions: &[Region]) -> Result<FlatWords, NoMemory>
     requires { length regions.now < 2 ^ 32 }
-    ensures words { IfOk result (λ words. (q : _) → flat_words words.slots.items words.cells.items q ≡ initial regions.now q) }
-    ensures lost { IfOk result (λ words. (q : _) → flat_lost words.slots.items words.cells.items q ≡ false) }
+    ensures words { IfOk result (λ words. (q : _) → flat_words words.slots.items words.words.items q ≡ initial regions.now q) }
+    ensures lost { IfOk result (λ words. (q : _) → flat_lost words.slots.items words.away.items q ≡ false) }
 {
     let mut words = FlatWords::new(alloc);
     for number in 0..regions.len() as u32 {
@@ -27,8 +27,8 @@ pub(crate) fn first_flat(alloc: Global, regions: &[Region]) -> Result<FlatWords,
 
 fn add_region(words: &mut FlatWords, number: u32, region: &Region) -> Result<(), NoMemory>
     requires { (k : _) → k < length words.old.slots.items → (slot_at words.old.slots.items k).range.region < number }
-    ensures words { OnOk result ((q : _) → flat_words words.new.slots.items words.new.cells.items q ≡ (if (number == q.region) && nat_lt q.index region.now.length then Some (pattern_word region.now.pattern q.index) else flat_words words.old.slots.items words.old.cells.items q)) }
-    ensures lost { OnOk result ((q : _) → flat_lost words.old.slots.items words.old.cells.items q ≡ false → flat_lost words.new.slots.items words.new.cells.items q ≡ false) }
+    ensures words { OnOk result ((q : _) → flat_words words.new.slots.items words.new.words.items q ≡ (if (number == q.region) && nat_lt q.index region.now.length then Some (pattern_word region.now.pattern q.index) else flat_words words.old.slots.items words.old.words.items q)) }
+    ensures lost { OnOk result ((q : _) → flat_lost words.old.slots.items words.old.away.items q ≡ false → flat_lost words.new.slots.items words.new.away.items q ≡ false) }
     ensures slots { OnOk result ((k : _) → k < length words.new.slots.items → (slot_at words.new.slots.items k).range.region < number + 1) }
 {
     let range = Range {
@@ -43,9 +43,9 @@ fn add_region(words: &mut FlatWords, number: u32, region: &Region) -> Result<(),
 
 // The words of a range become those of a region's pattern.
 fn fill(words: &mut FlatWords, range: Range, region: &Region)
-    requires { (q : _) → in_range range q ≡ true → IsSome (flat_words words.old.slots.items words.old.cells.items q) }
-    ensures words { (q : _) → flat_words words.new.slots.items words.new.cells.items q ≡ (if in_range range q then Some (pattern_word region.now.pattern q.index) else flat_words words.old.slots.items words.old.cells.items q) }
-    ensures lost { (q : _) → flat_lost words.new.slots.items words.new.cells.items q ≡ (if in_range range q then false else flat_lost words.old.slots.items words.old.cells.items q) }
+    requires { (q : _) → in_range range q ≡ true → IsSome (flat_words words.old.slots.items words.old.words.items q) }
+    ensures words { (q : _) → flat_words words.new.slots.items words.new.words.items q ≡ (if in_range range q then Some (pattern_word region.now.pattern q.index) else flat_words words.old.slots.items words.old.words.items q) }
+    ensures lost { (q : _) → flat_lost words.new.slots.items words.new.away.items q ≡ flat_lost words.old.slots.items words.old.away.items q }
     ensures slots { words.new.slots ≡ words.old.slots }
 {
     for index in range.low..range.high {
@@ -53,7 +53,7 @@ fn fill(words: &mut FlatWords, range: Range, region: &Region)
             region: range.region,
             index,
         };
-        words.set(place, region.pattern.at(index), false);
+        words.set(place, region.pattern.at(index));
     }
 }
 
@@ -64,9 +64,9 @@ pub(crate) fn flat_part(
     ranges: &[Range],
 ) -> Result<FlatWords, NoMemory>
     requires order { IsOrdered ranges.now }
-    requires known { (q : _) → in_ranges ranges.now q ≡ true → IsSome (flat_words whole.now.slots.items whole.now.cells.items q) }
-    ensures words { IfOk result (λ part. (q : _) → flat_words part.slots.items part.cells.items q ≡ (if in_ranges ranges.now q then flat_words whole.now.slots.items whole.now.cells.items q else None)) }
-    ensures lost { IfOk result (λ part. (q : _) → flat_lost part.slots.items part.cells.items q ≡ false) }
+    requires known { (q : _) → in_ranges ranges.now q ≡ true → IsSome (flat_words whole.now.slots.items whole.now.words.items q) }
+    ensures words { IfOk result (λ part. (q : _) → flat_words part.slots.items part.words.items q ≡ (if in_ranges ranges.now q then flat_words whole.now.slots.items whole.now.words.items q else None)) }
+    ensures lost { IfOk result (λ part. (q : _) → flat_lost part.slots.items part.away.items q ≡ false) }
 {
     let mut part = FlatWords::new(alloc);
     for range in ranges {
@@ -78,10 +78,10 @@ pub(crate) fn flat_part(
 fn add_part(part: &mut FlatWords, whole: &FlatWords, range: Range) -> Result<(), NoMemory>
     requires proper { range.low ≤ range.high }
     requires behind { (k : _) → k < length part.old.slots.items → is_behind (slot_at part.old.slots.items k).range range ≡ true }
-    requires known { (q : _) → in_range range q ≡ true → IsSome (flat_words whole.now.slots.items whole.now.cells.items q) }
-    ensures words { OnOk result ((q : _) → flat_words part.new.slots.items part.new.cells.items q ≡ (if in_range range q then flat_words whole.now.slots.items whole.now.cells.items q else flat_words part.old.slots.items part.old.cells.items q)) }
-    ensures lost { OnOk result ((q : _) → flat_lost part.old.slots.items part.old.cells.items q ≡ false → flat_lost part.new.slots.items part.new.cells.items q ≡ false) }
-    ensures slots { OnOk result (part.new.slots.items ≡ part.old.slots.items ++ record { range = range; first = length part.old.cells.items } ∷ []) }
+    requires known { (q : _) → in_range range q ≡ true → IsSome (flat_words whole.now.slots.items whole.now.words.items q) }
+    ensures words { OnOk result ((q : _) → flat_words part.new.slots.items part.new.words.items q ≡ (if in_range range q then flat_words whole.now.slots.items whole.now.words.items q else flat_words part.old.slots.items part.old.words.items q)) }
+    ensures lost { OnOk result ((q : _) → flat_lost part.old.slots.items part.old.away.items q ≡ false → flat_lost part.new.slots.items part.new.away.items q ≡ false) }
+    ensures slots { OnOk result (part.new.slots.items ≡ part.old.slots.items ++ record { range = range; first = length part.old.words.items } ∷ []) }
 {
     part.open(range)?;
     part.take_range(whole, range);
@@ -90,9 +90,9 @@ fn add_part(part: &mut FlatWords, whole: &FlatWords, range: Range) -> Result<(),
 
 // The words of ranges are away.
 pub(crate) fn mark_ranges(words: &mut FlatWords, ranges: &[Range])
-    requires { (q : _) → in_ranges ranges.now q ≡ true → IsSome (flat_words words.old.slots.items words.old.cells.items q) }
-    ensures words { (q : _) → flat_words words.new.slots.items words.new.cells.items q ≡ flat_words words.old.slots.items words.old.cells.items q }
-    ensures lost { (q : _) → flat_lost words.new.slots.items words.new.cells.items q ≡ (in_ranges ranges.now q || flat_lost words.old.slots.items words.old.cells.items q) }
+    requires { (q : _) → in_ranges ranges.now q ≡ true → IsSome (flat_words words.old.slots.items words.old.words.items q) }
+    ensures words { (q : _) → flat_words words.new.slots.items words.new.words.items q ≡ flat_words words.old.slots.items words.old.words.items q }
+    ensures lost { (q : _) → flat_lost words.new.slots.items words.new.away.items q ≡ (in_ranges ranges.now q || flat_lost words.old.slots.items words.old.away.items q) }
 {
     for range in ranges {
         words.mark_range(*range);
@@ -101,10 +101,10 @@ pub(crate) fn mark_ranges(words: &mut FlatWords, ranges: &[Range])
 
 // The words of ranges become those of others, and are here.
 pub(crate) fn take_ranges(words: &mut FlatWords, others: &FlatWords, ranges: &[Range])
-    requires known { (q : _) → in_ranges ranges.now q ≡ true → IsSome (flat_words words.old.slots.items words.old.cells.items q) }
-    requires given { (q : _) → in_ranges ranges.now q ≡ true → IsSome (flat_words others.now.slots.items others.now.cells.items q) }
-    ensures words { (q : _) → flat_words words.new.slots.items words.new.cells.items q ≡ written (in_ranges ranges.now) (flat_words others.now.slots.items others.now.cells.items) (flat_words words.old.slots.items words.old.cells.items) q }
-    ensures lost { (q : _) → flat_lost words.new.slots.items words.new.cells.items q ≡ (if in_ranges ranges.now q then false else flat_lost words.old.slots.items words.old.cells.items q) }
+    requires known { (q : _) → in_ranges ranges.now q ≡ true → IsSome (flat_words words.old.slots.items words.old.words.items q) }
+    requires given { (q : _) → in_ranges ranges.now q ≡ true → IsSome (flat_words others.now.slots.items others.now.words.items q) }
+    ensures words { (q : _) → flat_words words.new.slots.items words.new.words.items q ≡ written (in_ranges ranges.now) (flat_words others.now.slots.items others.now.words.items) (flat_words words.old.slots.items words.old.words.items) q }
+    ensures lost { (q : _) → flat_lost words.new.slots.items words.new.away.items q ≡ (if in_ranges ranges.now q then false else flat_lost words.old.slots.items words.old.away.items q) }
 {
     for range in ranges {
         words.take_range(others, *range);
@@ -119,10 +119,10 @@ pub(crate) fn strike_flat(
     begin: u64,
     point: u32,
 ) -> Kinds
-    requires known { All (λ fault. IsSome (flat_words words.old.slots.items words.old.cells.items fault.place)) (struck script.now node begin point) }
-    requires here { All (λ fault. flat_lost words.old.slots.items words.old.cells.items fault.place ≡ false) (struck script.now node begin point) }
-    ensures words { flat_words words.new.slots.items words.new.cells.items ≡ words_struck (struck script.now node begin point) (flat_words words.old.slots.items words.old.cells.items) }
-    ensures lost { flat_lost words.new.slots.items words.new.cells.items ≡ flat_lost words.old.slots.items words.old.cells.items }
+    requires known { All (λ fault. IsSome (flat_words words.old.slots.items words.old.words.items fault.place)) (struck script.now node begin point) }
+    requires here { All (λ fault. flat_lost words.old.slots.items words.old.away.items fault.place ≡ false) (struck script.now node begin point) }
+    ensures words { flat_words words.new.slots.items words.new.words.items ≡ words_struck (struck script.now node begin point) (flat_words words.old.slots.items words.old.words.items) }
+    ensures lost { flat_lost words.new.slots.items words.new.away.items ≡ flat_lost words.old.slots.items words.old.away.items }
     ensures kinds { result ≡ kinds_of (struck script.now node begin point) }
 {
     let mut kinds = Kinds::none();
@@ -136,13 +136,13 @@ pub(crate) fn strike_flat(
 }
 
 fn change_flat(words: &mut FlatWords, place: Place, mask: u64)
-    requires known { IsSome (flat_words words.old.slots.items words.old.cells.items place) }
-    requires here { flat_lost words.old.slots.items words.old.cells.items place ≡ false }
-    ensures words { flat_words words.new.slots.items words.new.cells.items ≡ struck_word (flat_words words.old.slots.items words.old.cells.items) place mask }
-    ensures lost { (q : _) → flat_lost words.new.slots.items words.new.cells.items q ≡ flat_lost words.old.slots.items words.old.cells.items q }
+    requires known { IsSome (flat_words words.old.slots.items words.old.words.items place) }
+    requires here { flat_lost words.old.slots.items words.old.away.items place ≡ false }
+    ensures words { flat_words words.new.slots.items words.new.words.items ≡ struck_word (flat_words words.old.slots.items words.old.words.items) place mask }
+    ensures lost { (q : _) → flat_lost words.new.slots.items words.new.away.items q ≡ flat_lost words.old.slots.items words.old.away.items q }
 {
     let word = words.word(place);
-    words.set(place, word ^ mask, false);
+    words.set(place, word ^ mask);
 }
 
 // The places of two sets. More ranges than a set can have would be more than there is memory for.

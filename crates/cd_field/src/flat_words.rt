@@ -2,17 +2,10 @@
 ghost use Rattle.std.specs.Prelude.{◌≡◌, ◌++◌, ◌∷◌, [], ◌<◌, ◌≤◌, ◌^◌, true, replicate, ◌&&◌, ◌||◌, ◌==◌, false, nat_lt, nat_le, None, Some, IsSome, length, OnOk, IfOk, if◌then◌else◌};
 ghost use Rattle.cd_base.specs.Words.{same_place, in_range};
 ghost use Rattle.cd_tree.specs.Meaning.{written};
-ghost use Rattle.cd_field.specs.Flat.{index_of, flat_words, flat_lost, is_behind, slot_at, HasCells, IsInOrder, IsWhole};
+ghost use Rattle.cd_field.specs.Flat.{index_of, flat_words, flat_lost, is_behind, slot_at, HasRoom, IsInOrder, IsWhole};
 
 use cd_base::{NoMemory, Place, Range};
 use std::alloc::Global;
-
-/// A word, and whether it is away.
-#[derive(Debug, Clone, Copy, PartialEq, Eq)]
-pub(crate) struct Cell {
-    word: u64,
-    lost: bool,
-}
 
 /// A range, and where the word of its first place stands.
 #[derive(Debug, Clone, Copy, PartialEq, Eq)]
@@ -25,24 +18,28 @@ pub(crate) struct Slot {
 #[derive(Drop)]
 pub(crate) struct FlatWords {
     slots: Vec<Slot>,
-    cells: Vec<Cell>,
+    words: Vec<u64>,
+    // Whether each word is away. It stands apart, so that a read or a write of a word that is here does not touch it.
+    away: Vec<bool>,
     // Whether the slots are those of all regions from 0 on; then the slot of a place needs no look at its range.
     whole: bool,
     ghost regions: { whole ≡ true → IsWhole slots.items },
     ghost order: { IsInOrder slots.items },
-    ghost room: { HasCells slots.items (length cells.items) },
+    ghost room: { HasRoom slots.items (length words.items) },
+    ghost same: { length words.items ≡ length away.items },
 }
 
 impl FlatWords {
     /// No words. It takes no memory.
     pub(crate) fn new(alloc: Global) -> FlatWords
-        ensures words { (q : _) → flat_words result.slots.items result.cells.items q ≡ None }
-        ensures lost { (q : _) → flat_lost result.slots.items result.cells.items q ≡ false }
+        ensures words { (q : _) → flat_words result.slots.items result.words.items q ≡ None }
+        ensures lost { (q : _) → flat_lost result.slots.items result.away.items q ≡ false }
         ensures slots { length result.slots.items ≡ 0 }
     {
         FlatWords {
             slots: Vec::new(alloc),
-            cells: Vec::new(alloc),
+            words: Vec::new(alloc),
+            away: Vec::new(alloc),
             whole: true,
         }
     }
@@ -50,9 +47,9 @@ impl FlatWords {
     /// Where the word of a place stands that has one.
     #[inline(always)]
     fn index(&self, place: Place) -> usize
-        requires { IsSome (flat_words self.now.slots.items self.now.cells.items place) }
+        requires { IsSome (flat_words self.now.slots.items self.now.words.items place) }
         ensures stands { index_of self.now.slots.items place ≡ Some result }
-        ensures within { result < length self.now.cells.items }
+        ensures within { (result < length self.now.words.items) × (result < length self.now.away.items) }
     {
         if self.whole {
             first_of(self.slots.as_slice(), place.region) + place.index as usize
@@ -65,38 +62,62 @@ impl FlatWords {
     }
 
     /// The word of a place that has one.
+    #[inline(always)]
     pub(crate) fn word(&self, place: Place) -> u64
-        requires { IsSome (flat_words self.now.slots.items self.now.cells.items place) }
-        ensures { flat_words self.now.slots.items self.now.cells.items place ≡ Some result }
+        requires { IsSome (flat_words self.now.slots.items self.now.words.items place) }
+        ensures { flat_words self.now.slots.items self.now.words.items place ≡ Some result }
     {
-        let i = self.index(place);
-        self.cells[i].word
+        let index = self.index(place);
+        self.words[index]
     }
 
-    /// Changes the word of a place that has one, and says whether it is away.
-    pub(crate) fn set(&mut self, place: Place, word: u64, lost: bool)
-        requires { IsSome (flat_words self.old.slots.items self.old.cells.items place) }
-        ensures words { (q : _) → flat_words self.new.slots.items self.new.cells.items q ≡ (if same_place place q then Some word else flat_words self.old.slots.items self.old.cells.items q) }
-        ensures lost { (q : _) → flat_lost self.new.slots.items self.new.cells.items q ≡ (if same_place place q then lost else flat_lost self.old.slots.items self.old.cells.items q) }
+    /// Changes the word of a place that has one. Whether it is away stays.
+    #[inline(always)]
+    pub(crate) fn set(&mut self, place: Place, word: u64)
+        requires { IsSome (flat_words self.old.slots.items self.old.words.items place) }
+        ensures words { (q : _) → flat_words self.new.slots.items self.new.words.items q ≡ (if same_place place q then Some word else flat_words self.old.slots.items self.old.words.items q) }
+        ensures lost { (q : _) → flat_lost self.new.slots.items self.new.away.items q ≡ flat_lost self.old.slots.items self.old.away.items q }
         ensures slots { self.new.slots ≡ self.old.slots }
     {
         let i = self.index(place);
-        self.cells[i] = Cell { word, lost };
+        self.words[i] = word;
+    }
+
+    /// Says whether the word of a place is away.
+    fn set_away(&mut self, place: Place, lost: bool)
+        requires { IsSome (flat_words self.old.slots.items self.old.words.items place) }
+        ensures words { (q : _) → flat_words self.new.slots.items self.new.words.items q ≡ flat_words self.old.slots.items self.old.words.items q }
+        ensures lost { (q : _) → flat_lost self.new.slots.items self.new.away.items q ≡ (if same_place place q then lost else flat_lost self.old.slots.items self.old.away.items q) }
+        ensures slots { self.new.slots ≡ self.old.slots }
+    {
+        let i = self.index(place);
+        self.away[i] = lost;
+    }
+
+    /// Changes the word of a place that has one. It is here then.
+    pub(crate) fn put_back(&mut self, place: Place, word: u64)
+        requires { IsSome (flat_words self.old.slots.items self.old.words.items place) }
+        ensures words { (q : _) → flat_words self.new.slots.items self.new.words.items q ≡ (if same_place place q then Some word else flat_words self.old.slots.items self.old.words.items q) }
+        ensures lost { (q : _) → flat_lost self.new.slots.items self.new.away.items q ≡ (if same_place place q then false else flat_lost self.old.slots.items self.old.away.items q) }
+        ensures slots { self.new.slots ≡ self.old.slots }
+    {
+        self.set_away(place, false);
+        self.set(place, word);
     }
 
     /// Adds the words of a range behind all others. They are 0, and none is away.
     pub(crate) fn open(&mut self, range: Range) -> Result<(), NoMemory>
         requires proper { range.low ≤ range.high }
         requires behind { (k : _) → k < length self.old.slots.items → is_behind (slot_at self.old.slots.items k).range range ≡ true }
-        ensures words { OnOk result ((q : _) → flat_words self.new.slots.items self.new.cells.items q ≡ (if in_range range q then Some 0 else flat_words self.old.slots.items self.old.cells.items q)) }
-        ensures lost { OnOk result ((q : _) → flat_lost self.new.slots.items self.new.cells.items q ≡ (if in_range range q then false else flat_lost self.old.slots.items self.old.cells.items q)) }
-        ensures slots { OnOk result (self.new.slots.items ≡ self.old.slots.items ++ record { range = range; first = length self.old.cells.items } ∷ []) }
+        ensures words { OnOk result ((q : _) → flat_words self.new.slots.items self.new.words.items q ≡ (if in_range range q then Some 0 else flat_words self.old.slots.items self.old.words.items q)) }
+        ensures lost { OnOk result ((q : _) → flat_lost self.new.slots.items self.new.away.items q ≡ (if in_range range q then false else flat_lost self.old.slots.items self.old.away.items q)) }
+        ensures slots { OnOk result (self.new.slots.items ≡ self.old.slots.items ++ record { range = range; first = length self.old.words.items } ∷ []) }
     {
-        let count = self.cells.len();
+        let count = self.words.len();
         if count > u32::MAX as usize {
             return Err(NoMemory);
         }
-        add_blanks(&mut self.cells, range.high - range.low)?;
+        add_blanks(&mut self.words, &mut self.away, range.high - range.low)?;
         self.whole = is_next(self.whole, self.slots.len(), range);
         self.slots.push(Slot {
             range,
@@ -107,20 +128,19 @@ impl FlatWords {
 
     /// The word of a place is away.
     fn mark(&mut self, place: Place)
-        requires { IsSome (flat_words self.old.slots.items self.old.cells.items place) }
-        ensures words { (q : _) → flat_words self.new.slots.items self.new.cells.items q ≡ flat_words self.old.slots.items self.old.cells.items q }
-        ensures lost { (q : _) → flat_lost self.new.slots.items self.new.cells.items q ≡ (same_place place q || flat_lost self.old.slots.items self.old.cells.items q) }
+        requires { IsSome (flat_words self.old.slots.items self.old.words.items place) }
+        ensures words { (q : _) → flat_words self.new.slots.items self.new.words.items q ≡ flat_words self.old.slots.items self.old.words.items q }
+        ensures lost { (q : _) → flat_lost self.new.slots.items self.new.away.items q ≡ (same_place place q || flat_lost self.old.slots.items self.old.away.items q) }
         ensures slots { self.new.slots ≡ self.old.slots }
     {
-        let word = self.word(place);
-        self.set(place, word, true);
+        self.set_away(place, true);
     }
 
     /// The words of a range are away.
     pub(crate) fn mark_range(&mut self, range: Range)
-        requires { (q : _) → in_range range q ≡ true → IsSome (flat_words self.old.slots.items self.old.cells.items q) }
-        ensures words { (q : _) → flat_words self.new.slots.items self.new.cells.items q ≡ flat_words self.old.slots.items self.old.cells.items q }
-        ensures lost { (q : _) → flat_lost self.new.slots.items self.new.cells.items q ≡ (in_range range q || flat_lost self.old.slots.items self.old.cells.items q) }
+        requires { (q : _) → in_range range q ≡ true → IsSome (flat_words self.old.slots.items self.old.words.items q) }
+        ensures words { (q : _) → flat_words self.new.slots.items self.new.words.items q ≡ flat_words self.old.slots.items self.old.words.items q }
+        ensures lost { (q : _) → flat_lost self.new.slots.items self.new.away.items q ≡ (in_range range q || flat_lost self.old.slots.items self.old.away.items q) }
     {
         for index in range.low..range.high {
             self.mark(Place {
@@ -132,22 +152,22 @@ impl FlatWords {
 
     /// The word of a place becomes that of others, and is here.
     fn take(&mut self, others: &FlatWords, place: Place)
-        requires known { IsSome (flat_words self.old.slots.items self.old.cells.items place) }
-        requires given { IsSome (flat_words others.now.slots.items others.now.cells.items place) }
-        ensures words { (q : _) → flat_words self.new.slots.items self.new.cells.items q ≡ written (same_place place) (flat_words others.now.slots.items others.now.cells.items) (flat_words self.old.slots.items self.old.cells.items) q }
-        ensures lost { (q : _) → flat_lost self.new.slots.items self.new.cells.items q ≡ (if same_place place q then false else flat_lost self.old.slots.items self.old.cells.items q) }
+        requires known { IsSome (flat_words self.old.slots.items self.old.words.items place) }
+        requires given { IsSome (flat_words others.now.slots.items others.now.words.items place) }
+        ensures words { (q : _) → flat_words self.new.slots.items self.new.words.items q ≡ written (same_place place) (flat_words others.now.slots.items others.now.words.items) (flat_words self.old.slots.items self.old.words.items) q }
+        ensures lost { (q : _) → flat_lost self.new.slots.items self.new.away.items q ≡ (if same_place place q then false else flat_lost self.old.slots.items self.old.away.items q) }
         ensures slots { self.new.slots ≡ self.old.slots }
     {
         let word = others.word(place);
-        self.set(place, word, false);
+        self.put_back(place, word);
     }
 
     /// The words of a range become those of others, and are here.
     pub(crate) fn take_range(&mut self, others: &FlatWords, range: Range)
-        requires known { (q : _) → in_range range q ≡ true → IsSome (flat_words self.old.slots.items self.old.cells.items q) }
-        requires given { (q : _) → in_range range q ≡ true → IsSome (flat_words others.now.slots.items others.now.cells.items q) }
-        ensures words { (q : _) → flat_words self.new.slots.items self.new.cells.items q ≡ written (in_range range) (flat_words others.now.slots.items others.now.cells.items) (flat_words self.old.slots.items self.old.cells.items) q }
-        ensures lost { (q : _) → flat_lost self.new.slots.items self.new.cells.items q ≡ (if in_range range q then false else flat_lost self.old.slots.items self.old.cells.items q) }
+        requires known { (q : _) → in_range range q ≡ true → IsSome (flat_words self.old.slots.items self.old.words.items q) }
+        requires given { (q : _) → in_range range q ≡ true → IsSome (flat_words others.now.slots.items others.now.words.items q) }
+        ensures words { (q : _) → flat_words self.new.slots.items self.new.words.items q ≡ written (in_range range) (flat_words others.now.slots.items others.now.words.items) (flat_words self.old.slots.items self.old.words.items) q }
+        ensures lost { (q : _) → flat_lost self.new.slots.items self.new.away.items q ≡ (if in_range range q then false else flat_lost self.old.slots.items self.old.away.items q) }
         ensures slots { self.new.slots ≡ self.old.slots }
     {
         for index in range.low..range.high {
@@ -169,22 +189,38 @@ fn is_next(whole: bool, count: usize, range: Range) -> bool
     whole && range.region as usize == count && range.low == 0
 }
 
-const BLANK: Cell = Cell {
-    word: 0,
-    lost: false,
-};
-
-// Adds cells with 0.
-fn add_blanks(cells: &mut Vec<Cell>, count: u32) -> Result<(), NoMemory>
-    ensures added { OnOk result (cells.new.items ≡ cells.old.items ++ replicate count (record { word = 0; lost = false })) }
-    ensures grown { length cells.old.items ≤ length cells.new.items }
+// Adds words that are 0, none of which is away.
+fn add_blanks(words: &mut Vec<u64>, away: &mut Vec<bool>, count: u32) -> Result<(), NoMemory>
+    requires { length words.old.items ≡ length away.old.items }
+    ensures words { OnOk result (words.new.items ≡ words.old.items ++ replicate count 0) }
+    ensures away { OnOk result (away.new.items ≡ away.old.items ++ replicate count false) }
+    ensures same { length words.new.items ≡ length away.new.items }
+    ensures grown { length words.old.items ≤ length words.new.items }
 {
     for _added in 0..count {
-        cells.push(BLANK)?;
+        push_blank(words, away)?;
     }
     Ok(())
 }
 
+// Adds a word that is 0 and not away; nothing where there is no memory for both.
+fn push_blank(words: &mut Vec<u64>, away: &mut Vec<bool>) -> Result<(), NoMemory>
+    requires { length words.old.items ≡ length away.old.items }
+    ensures words { OnOk result (words.new.items ≡ words.old.items ++ 0 ∷ []) }
+    ensures away { OnOk result (away.new.items ≡ away.old.items ++ false ∷ []) }
+    ensures same { length words.new.items ≡ length away.new.items }
+    ensures grown { length words.old.items ≤ length words.new.items }
+{
+    let count = words.len();
+    words.push(0)?;
+    if away.push(false).is_err() {
+        words.truncate(count);
+        return Err(NoMemory);
+    }
+    Ok(())
+}
+
+#[inline(always)]
 fn first_of(slots: &[Slot], region: u32) -> usize
     requires { region < length slots.now }
     ensures first { result ≡ (slot_at slots.now region).first }

@@ -70,11 +70,11 @@ impl Field for ScriptField {
     }
 
     fn write(&mut self, place: Place, word: u64) {
-        self.words.set(place, word, false);
+        self.words.set(place, word);
     }
 
     fn refill(&mut self, place: Place, word: u64) {
-        self.words.set(place, word, false);
+        self.words.put_back(place, word);
     }
 
     fn reached(&mut self, point: u32) -> Result<(), NoMemory> {

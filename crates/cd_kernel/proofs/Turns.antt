@@ -5,7 +5,7 @@ use Rattle.cd_base.specs.declared.place.Place.{Place}
 use Rattle.cd_base.specs.declared.place.Range.{Range}
 use Rattle.cd_base.specs.Words.{Words, in_range, in_ranges, word_of}
 use Rattle.cd_tree.specs.declared.operation.Op.{Op}
-use Rattle.cd_tree.specs.declared.operation.Op.TheVariants.{Scan}
+use Rattle.cd_tree.specs.declared.operation.Op.TheVariants.{Fill, Scan}
 use Rattle.cd_tree.specs.Operations.{column, op_writes, length_of, nth_word, total, FitsShape, IsInStep}
 use Rattle.cd_field.specs.Machine.{Machine, IsPresent, ArePresent, wrote}
 use Rattle.cd_kernel.specs.Computing.{nth_place, IsHere, IsDirect}
@@ -61,6 +61,12 @@ column_written m was later op d n word e at_d direct shape short value wrote_it 
     word_written m was later op n word e
     (value ∙ ap (λ (v : Machine). column op v.words n) e ∙ column_stays op was.words n direct shape (subst P at_d short))
     (wrote_it ∙ ap (λ (r : Range). wrote m (nth_place r n) word) at_d)
+
+-- one turn of a `fill`
+pub fill_written : (m was later : Machine) (d : Range) (n word : ℕ)
+    → m ≡ record was { words = words_to (Fill d word) was.words n } → later ≡ wrote m (nth_place d n) word
+    → later ≡ record was { words = words_to (Fill d word) was.words (n + 1) }
+fill_written m was later d n word e wrote_it = word_written m was later (Fill d word) n word e refl wrote_it
 
 -- one turn of a `scan`: the sum up to here is written
 pub sum_written : (m was later : Machine) (d x : Range) (n sum : ℕ)

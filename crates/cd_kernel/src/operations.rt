@@ -1,6 +1,6 @@
 ghost use Rattle.std.specs.Prelude.{◌≡◌, ◌∷◌, [], All};
 ghost use Rattle.cd_tree.specs.Operations.{op_reads, op_writes, FitsShape, IsFull, IsInStep};
-ghost use Rattle.cd_tree.specs.declared.operation.Op.TheVariants.{Scan};
+ghost use Rattle.cd_tree.specs.declared.operation.Op.TheVariants.{Fill, Scan};
 ghost use Rattle.cd_field.specs.Machine.{ArePresent};
 ghost use Rattle.cd_kernel.specs.Computing.{computed, IsDirect};
 
@@ -19,7 +19,7 @@ pub fn apply<F: Field>(op: &Op, field: &mut F)
 {
     match *op {
         Op::Scan(d, x) => scan(d, x, field),
-        Op::Fill(d, word) => write_columns(&Op::Fill(d, word), field),
+        Op::Fill(d, word) => fill(d, word, field),
         Op::Copy(d, x) => write_columns(&Op::Copy(d, x), field),
         Op::Add(d, x, z) => write_columns(&Op::Add(d, x, z), field),
         Op::Sub(d, x, z) => write_columns(&Op::Sub(d, x, z), field),
@@ -46,6 +46,18 @@ fn write_columns<F: Field>(op: &Op, field: &mut F)
     let d = writes(op);
     for i in 0..d.high - d.low {
         let word = column_word(op, i, field);
+        write_nth(d, i, word, field);
+    }
+}
+
+// One word at each place of the destination. It is a call of its own, so that the word stands in a register throughout.
+#[inline(never)]
+fn fill<F: Field>(d: Range, word: u64, field: &mut F)
+    requires full { IsFull d }
+    requires present { ArePresent (F.state field.old) (d ∷ []) }
+    ensures { F.state field.new ≡ computed (F.state field.old) (Fill d word) }
+{
+    for i in 0..d.high - d.low {
         write_nth(d, i, word, field);
     }
 }

@@ -13,8 +13,8 @@ loop-number-preserved c =
     let regions = c.args.regions.now in
     let number = c.loop-number.number in
     let region = c.index-regions-number.result in
-    let before : Words = flat_words c.loop-number.words.slots.items c.loop-number.words.cells.items in
-    let after : Words = flat_words c.add_region.new.words.slots.items c.add_region.new.words.cells.items in
+    let before : Words = flat_words c.loop-number.words.slots.items c.loop-number.words.words.items in
+    let after : Words = flat_words c.add_region.new.words.slots.items c.add_region.new.words.words.items in
     let found : slice_get regions number ≡ Some region =
     slice_get_read regions _ number region refl c.loop-number-test.true c.index-regions-number.is in
     record {

@@ -21,9 +21,9 @@ pub loop-range-preserved : goal.loop-range-preserved
 loop-range-preserved c =
     let ranges : List Range = c.args.ranges.now in
     let i : ℕ = c.loop-range.range-index in
-    let whole : Words = flat_words c.args.whole.now.slots.items c.args.whole.now.cells.items in
-    let before : Words = flat_words c.loop-range.part.slots.items c.loop-range.part.cells.items in
-    let after : Words = flat_words c.add_part.new.part.slots.items c.add_part.new.part.cells.items in
+    let whole : Words = flat_words c.args.whole.now.slots.items c.args.whole.now.words.items in
+    let before : Words = flat_words c.loop-range.part.slots.items c.loop-range.part.words.items in
+    let after : Words = flat_words c.add_part.new.part.slots.items c.add_part.new.part.words.items in
     record {
       words = λ q. ranges_step whole before after (range_at ranges i) (drop (i + 1) ranges) c.in_ok-add_part.ensures.words q
           ∙ ap (λ (v : List Range). if in_ranges v q then whole q else before q) (sym (drop_more ranges i no_range c.loop-range-test.true))

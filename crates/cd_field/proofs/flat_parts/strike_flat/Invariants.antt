@@ -6,10 +6,10 @@ use Rattle.cd_field.proofs.flat_parts.strike_flat.Given as goal
 
 abbrev pub invariant-loop-fault : goal.invariant-loop-fault
 invariant-loop-fault l = record {
-  words : words_struck (struck (drop l.fault-index l.script) l.node l.begin l.point) (flat_words l.words.slots.items l.words.cells.items)
-      ≡ words_struck (struck l.script l.node l.begin l.point) (flat_words l.initial.words.slots.items l.initial.words.cells.items);
+  words : words_struck (struck (drop l.fault-index l.script) l.node l.begin l.point) (flat_words l.words.slots.items l.words.words.items)
+      ≡ words_struck (struck l.script l.node l.begin l.point) (flat_words l.initial.words.slots.items l.initial.words.words.items);
   kinds : bit_or l.kinds (kinds_of (struck (drop l.fault-index l.script) l.node l.begin l.point))
       ≡ kinds_of (struck l.script l.node l.begin l.point);
-  known : (q : Place) → IsSome (flat_words l.initial.words.slots.items l.initial.words.cells.items q) → IsSome (flat_words l.words.slots.items l.words.cells.items q);
-  lost : (q : Place) → flat_lost l.words.slots.items l.words.cells.items q ≡ flat_lost l.initial.words.slots.items l.initial.words.cells.items q;
+  known : (q : Place) → IsSome (flat_words l.initial.words.slots.items l.initial.words.words.items q) → IsSome (flat_words l.words.slots.items l.words.words.items q);
+  lost : (q : Place) → flat_lost l.words.slots.items l.words.away.items q ≡ flat_lost l.initial.words.slots.items l.initial.words.away.items q;
 }
