@@ -1,10 +1,11 @@
-use crate::calls::{EXHAUSTED, FILL, RECOVERED, call, call_joined};
+use crate::calls::{Case, EXHAUSTED, FILL, RECOVERED, begins_with, call, tells};
 use crate::texts::{
     HALTED, HALTING, HALTING_FOUND, HALTING_LAST, LEAKING, LEAKING_STRUCK, MEMBERS, MEMBERS_STRUCK,
     NESTED, NESTED_STRUCK, PRODUCT, PRODUCT_READ, PRODUCT_STRUCK, REFERRING, REFERRING_STRUCK,
     SHARING, SHARING_STRUCK,
 };
 use cd_field::MapField;
+use std::alloc::Global;
 use std::test::Fail;
 
 /// Tries of the root that are all struck but one of the last two.
@@ -19,7 +20,7 @@ faults
 ";
 
 /// Documents in two parts, and what is read of them.
-const READINGS: [(&str, &str, &str); 16] = [
+static READINGS: [(&str, &str, &str); 16] = [
     (FILL, "", "committed\nbegins root 1\ntotal 1\n"),
     (FILL, RECOVERED, "committed\nbegins root 2\ntotal 2\n"),
     (
@@ -92,23 +93,14 @@ const READINGS: [(&str, &str, &str); 16] = [
 
 #[test]
 fn documents_are_read_through(rt: HostRuntime) -> Result<(), Fail> {
-    let alloc = rt.alloc();
-    for (front, back, written) in READINGS {
-        let mut machine = MapField::empty(alloc);
-        let answer = call_joined(alloc, &["read"], front, back, &mut machine)?;
-        assert_eq!(rt; answer.status, 0, "{front}{back}");
-        assert_eq!(rt;
-            answer.written.as_slice(),
-            written.as_bytes(),
-            "{front}{back}"
-        );
-        assert!(rt; !answer.began, "{front}{back}");
+    for (front, back, written) in &READINGS {
+        tells(rt.alloc(), &["read"], &(*front, *back, 0, *written))?;
     }
     Ok(())
 }
 
 /// What `check` and `lift` write, for a document in two parts.
-const TEXTS: [(&str, &str, &str, &str); 7] = [
+static TEXTS: [(&str, &str, &str, &str); 7] = [
     (
         "check",
         FILL,
@@ -155,65 +147,51 @@ const TEXTS: [(&str, &str, &str, &str); 7] = [
 
 #[test]
 fn texts_are_written_and_stay_when_read_again(rt: HostRuntime) -> Result<(), Fail> {
-    let alloc = rt.alloc();
-    for (word, front, back, written) in TEXTS {
-        let mut machine = MapField::empty(alloc);
-        let first = call_joined(alloc, &[word], front, back, &mut machine)?;
-        let again = call(alloc, &[word], first.written.as_slice(), &mut machine)?;
-        for answer in [&first, &again] {
-            assert_eq!(rt; answer.status, 0, "{word} {front}{back}");
-            assert_eq!(rt;
-                answer.written.as_slice(),
-                written.as_bytes(),
-                "{word} {front}{back}"
-            );
-            assert!(rt; !answer.began, "{word} {front}{back}");
-        }
+    for (word, front, back, written) in &TEXTS {
+        tells(rt.alloc(), &[*word], &(*front, *back, 0, *written))?;
+        tells(rt.alloc(), &[*word], &(*written, "", 0, *written))?;
     }
     Ok(())
 }
 
 /// The first lines of `check`, for documents in two parts.
-const FIRST_LINES: [(&str, &str, &str); 4] = [
+static FIRST_LINES: [Case; 4] = [
     (
         MEMBERS,
         MEMBERS_STRUCK,
+        0,
         "# accepted domains 3 items 3 entries 4 words 8 need 4 faults 1\n",
     ),
     (
         REFERRING,
         REFERRING_STRUCK,
+        0,
         "# accepted domains 2 items 2 entries 4 words 8 need 6 faults 2\n",
     ),
     (
         PRODUCT,
         "",
+        0,
         "# accepted domains 21 items 21 entries 105 words 2049 need 653 faults 0\n",
     ),
     (
         PRODUCT,
         PRODUCT_STRUCK,
+        0,
         "# accepted domains 21 items 21 entries 105 words 2049 need 653 faults 12\n",
     ),
 ];
 
 #[test]
 fn accepted_documents_are_counted(rt: HostRuntime) -> Result<(), Fail> {
-    let alloc = rt.alloc();
-    for (front, back, line) in FIRST_LINES {
-        let mut machine = MapField::empty(alloc);
-        let answer = call_joined(alloc, &["check"], front, back, &mut machine)?;
-        assert_eq!(rt; answer.status, 0, "{line}");
-        assert!(rt;
-            answer.written.as_slice().starts_with(line.as_bytes()),
-            "{line}"
-        );
+    for case in &FIRST_LINES {
+        begins_with(rt.alloc(), case)?;
     }
     Ok(())
 }
 
 /// Sizes of generated documents, with their first line of `check`, and the end of what is read of them.
-const SIZES: [(&str, &str, &str); 3] = [
+static SIZES: [(&str, &str, &str); 3] = [
     (
         "1",
         "# accepted domains 4 items 6 entries 20 words 260 need 28 faults 2\n",
@@ -231,24 +209,23 @@ const SIZES: [(&str, &str, &str); 3] = [
     ),
 ];
 
+/// Whether the document that is made at a size is accepted with this first line, and what is read of it has this end.
+fn is_made(alloc: Global, size: &str, line: &str, end: &str) -> Result<bool, Fail> {
+    let mut machine = MapField::empty(alloc);
+    let made = call(alloc, &["make", "--size", size], b"", &mut machine)?;
+    let checked = call(alloc, &["check"], made.written.as_slice(), &mut machine)?;
+    let read = call(alloc, &["read"], made.written.as_slice(), &mut machine)?;
+    Ok(
+        (made.status, checked.status, read.status) == (0, 0, 0)
+            && checked.written.as_slice().starts_with(line.as_bytes())
+            && read.written.as_slice().ends_with(end.as_bytes()),
+    )
+}
+
 #[test]
 fn made_documents_are_accepted_and_read(rt: HostRuntime) -> Result<(), Fail> {
-    let alloc = rt.alloc();
-    for (size, line, end) in SIZES {
-        let mut machine = MapField::empty(alloc);
-        let made = call(alloc, &["make", "--size", size], b"", &mut machine)?;
-        let checked = call(alloc, &["check"], made.written.as_slice(), &mut machine)?;
-        let read = call(alloc, &["read"], made.written.as_slice(), &mut machine)?;
-        assert_eq!(rt;
-            (made.status, checked.status, read.status),
-            (0, 0, 0),
-            "{size}"
-        );
-        assert!(rt;
-            checked.written.as_slice().starts_with(line.as_bytes()),
-            "{size}"
-        );
-        assert!(rt; read.written.as_slice().ends_with(end.as_bytes()), "{size}");
+    for (size, line, end) in &SIZES {
+        assert!(rt; is_made(rt.alloc(), size, line, end)?, "{size}");
     }
     Ok(())
 }

@@ -31,6 +31,13 @@ pub(crate) struct Answer {
     pub began: bool,
 }
 
+impl Answer {
+    /// Whether an answer has this status and this text.
+    pub(crate) fn is(&self, status: u8, written: &[u8]) -> bool {
+        self.status == status && self.written.as_slice() == written
+    }
+}
+
 pub(crate) fn words_of(alloc: Global, texts: &[&str]) -> Result<Words, Fail> {
     let mut words = Words::new(alloc);
     for text in texts {
@@ -96,4 +103,62 @@ pub(crate) fn call_joined(
     let mut text = String::from_str(alloc, front)?;
     text.push_str(back)?;
     call(alloc, words, text.as_bytes(), machine)
+}
+
+/// A document in two parts, and the status and the text that a call on it is to answer.
+pub(crate) type Case<'a> = (&'a str, &'a str, u8, &'a str);
+
+/// What a test fails with at a case: the words, what is wrong, and the document, its second part first since a long text is
+/// cut off.
+fn failed(words: &[&str], why: &str, case: &Case) -> Fail {
+    let (front, back, _, _) = case;
+    Fail::new(format_args!("{words:?} {why}: {back} behind {front}"))
+}
+
+/// Whether the machine's record has an event behind a call, which fails the test unless it answers as the case says.
+fn answers(
+    alloc: Global,
+    words: &[&str],
+    case: &Case,
+    machine: &mut MapField,
+) -> Result<bool, Fail> {
+    let (front, back, status, written) = case;
+    let answer = call_joined(alloc, words, front, back, machine)?;
+    if answer.status != *status {
+        return Err(failed(words, "gives another status", case));
+    }
+    if answer.written.as_slice() != written.as_bytes() {
+        return Err(failed(words, "writes another text", case));
+    }
+    Ok(answer.began)
+}
+
+/// A call that runs a document: it answers as the case says, and the record begins exactly where the status is of a run.
+pub(crate) fn runs(alloc: Global, words: &[&str], case: &Case) -> Result<(), Fail> {
+    let mut machine = MapField::empty(alloc);
+    let (_, _, status, _) = case;
+    if answers(alloc, words, case, &mut machine)? == (*status < 2) {
+        return Ok(());
+    }
+    Err(failed(words, "leaves another record", case))
+}
+
+/// A call that runs nothing: it answers as the case says, and there is no record.
+pub(crate) fn tells(alloc: Global, words: &[&str], case: &Case) -> Result<(), Fail> {
+    let mut machine = MapField::empty(alloc);
+    if answers(alloc, words, case, &mut machine)? {
+        return Err(failed(words, "leaves a record", case));
+    }
+    Ok(())
+}
+
+/// A call of `check` that gives the case's status and writes a text that begins with the case's.
+pub(crate) fn begins_with(alloc: Global, case: &Case) -> Result<(), Fail> {
+    let mut machine = MapField::empty(alloc);
+    let (front, back, status, line) = case;
+    let answer = call_joined(alloc, &["check"], front, back, &mut machine)?;
+    if answer.status == *status && answer.written.as_slice().starts_with(line.as_bytes()) {
+        return Ok(());
+    }
+    Err(failed(&["check"], "begins otherwise", case))
 }

@@ -1,6 +1,6 @@
-use crate::calls::call_joined;
+use crate::calls::{Case, begins_with, tells};
 use crate::documents::joined;
-use cd_field::MapField;
+use std::alloc::Global;
 use std::test::Fail;
 
 /// A document with one domain, up to its first item.
@@ -8,7 +8,7 @@ const ONE: &str = "region y 4 const 0\ndomain root retry 2 detects flip\npreserv
 
 /// Documents in two parts without their first lines, and what they are refused for in version 1, and in version 2 behind
 /// four kinds.
-const REFUSED: [(&str, &str, &str, &str); 17] = [
+static REFUSED: [(&str, &str, &str, &str); 17] = [
     (
         ONE,
         "fil y 7\nend\n",
@@ -115,24 +115,26 @@ const REFUSED: [(&str, &str, &str, &str); 17] = [
 
 const KINDS: &str = "cd 2\nkind flip\nkind lost\nkind link\nkind node\n";
 
+/// A document in three parts, which each action refuses with this line.
+fn each_action_tells(
+    alloc: Global,
+    head: &str,
+    front: &str,
+    back: &str,
+    line: &str,
+) -> Result<(), Fail> {
+    let text = joined(alloc, &[head, front])?;
+    for word in ["check", "read", "lift", "run"] {
+        tells(alloc, &[word], &(text.as_str(), back, 3, line))?;
+    }
+    Ok(())
+}
+
 #[test]
 fn refused_documents_are_told_by_each_action(rt: HostRuntime) -> Result<(), Fail> {
-    let alloc = rt.alloc();
-    for (front, back, first, second) in REFUSED {
-        for (head, line) in [("cd 1\n", first), (KINDS, second)] {
-            let text = joined(alloc, &[head, front])?;
-            for word in ["check", "read", "lift", "run"] {
-                let mut machine = MapField::empty(alloc);
-                let answer = call_joined(alloc, &[word], text.as_str(), back, &mut machine)?;
-                assert_eq!(rt; answer.status, 3, "{word} {head}{front}{back}");
-                assert_eq!(rt;
-                    answer.written.as_slice(),
-                    line.as_bytes(),
-                    "{word} {head}{front}{back}"
-                );
-                assert!(rt; !answer.began, "{word} {head}{front}{back}");
-            }
-        }
+    for (front, back, first, second) in &REFUSED {
+        each_action_tells(rt.alloc(), "cd 1\n", front, back, first)?;
+        each_action_tells(rt.alloc(), KINDS, front, back, second)?;
     }
     Ok(())
 }
@@ -234,7 +236,7 @@ domain a retry 1 detects flip
 ";
 
 /// Documents in two parts, at a limit or past one, each with its status and the first line that is written.
-const LIMITS: [(&str, &str, u8, &str); 24] = [
+static LIMITS: [Case; 24] = [
     (
         "cd 1\nfor a in 0..65532\nend\n",
         "domain root retry 2 detects flip\nend\n",
@@ -378,15 +380,8 @@ const LIMITS: [(&str, &str, u8, &str); 24] = [
 
 #[test]
 fn limits_are_kept_and_told(rt: HostRuntime) -> Result<(), Fail> {
-    let alloc = rt.alloc();
-    for (front, back, status, line) in LIMITS {
-        let mut machine = MapField::empty(alloc);
-        let answer = call_joined(alloc, &["check"], front, back, &mut machine)?;
-        assert_eq!(rt; answer.status, status, "{front}{back}");
-        assert!(rt;
-            answer.written.as_slice().starts_with(line.as_bytes()),
-            "{front}{back}"
-        );
+    for case in &LIMITS {
+        begins_with(rt.alloc(), case)?;
     }
     Ok(())
 }

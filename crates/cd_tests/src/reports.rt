@@ -1,9 +1,12 @@
-use crate::calls::{EXHAUSTED, FILL, FILLED, RECOVERED, call, call_failing, call_joined};
+use crate::calls::{
+    Case, EXHAUSTED, FILL, FILLED, RECOVERED, call, call_failing, call_joined, runs, tells,
+};
 use crate::texts::{
     HALTED, HALTING, LEAKING, LEAKING_STRUCK, MEMBERS, NESTED, NESTED_STRUCK, PRODUCT,
     PRODUCT_STRUCK, REFERRING, SHARING,
 };
 use cd_field::MapField;
+use std::alloc::Global;
 use std::test::Fail;
 
 const TWICE: &str = "committed\nregion y 7 7 7 7\nbegins root 2\ntotal 2\n";
@@ -123,7 +126,7 @@ total 2
 ";
 
 /// Documents in two parts, each with its status and its text.
-const DOCUMENTS: [(&str, &str, u8, &str); 15] = [
+static DOCUMENTS: [Case; 15] = [
     (FILL, "", 0, FILLED),
     (FILL, RECOVERED, 0, TWICE),
     (
@@ -178,17 +181,8 @@ const DOCUMENTS: [(&str, &str, u8, &str); 15] = [
 
 #[test]
 fn documents_are_run_and_reported(rt: HostRuntime) -> Result<(), Fail> {
-    let alloc = rt.alloc();
-    for (front, back, status, written) in DOCUMENTS {
-        let mut machine = MapField::empty(alloc);
-        let answer = call_joined(alloc, &["run"], front, back, &mut machine)?;
-        assert_eq!(rt; answer.status, status, "{front}{back}");
-        assert_eq!(rt;
-            answer.written.as_slice(),
-            written.as_bytes(),
-            "{front}{back}"
-        );
-        assert_eq!(rt; answer.began, status < 2, "{front}{back}");
+    for case in &DOCUMENTS {
+        runs(rt.alloc(), &["run"], case)?;
     }
     Ok(())
 }
@@ -235,7 +229,7 @@ escalate 0
 ";
 
 /// Documents in two parts, each with its status and its text with the record.
-const RECORDS: [(&str, &str, u8, &str); 5] = [
+static RECORDS: [Case; 5] = [
     (
         FILL,
         "",
@@ -260,23 +254,15 @@ const RECORDS: [(&str, &str, u8, &str); 5] = [
 
 #[test]
 fn records_are_written_where_they_are_asked_for(rt: HostRuntime) -> Result<(), Fail> {
-    let alloc = rt.alloc();
-    for (front, back, status, written) in RECORDS {
-        let mut machine = MapField::empty(alloc);
-        let answer = call_joined(alloc, &["run", "--record"], front, back, &mut machine)?;
-        assert_eq!(rt; answer.status, status, "{front}{back}");
-        assert_eq!(rt;
-            answer.written.as_slice(),
-            written.as_bytes(),
-            "{front}{back}"
-        );
+    for case in &RECORDS {
+        runs(rt.alloc(), &["run", "--record"], case)?;
     }
     Ok(())
 }
 
 /// Documents in two parts that are accepted, and that the engine cannot run as yet: domains below the root, entries that
 /// are references or patterns, kinds that halt.
-const UNBUILT: [(&str, &str); 11] = [
+static UNBUILT: [(&str, &str); 11] = [
     (NESTED, ""),
     (NESTED, NESTED_STRUCK),
     (LEAKING, LEAKING_STRUCK),
@@ -301,25 +287,16 @@ const UNBUILT: [(&str, &str); 11] = [
 
 #[test]
 fn what_the_engine_lacks_is_not_run(rt: HostRuntime) -> Result<(), Fail> {
-    let alloc = rt.alloc();
-    for (front, back) in UNBUILT {
-        for words in [["run", "--workers=2"], ["run", "--record"]] {
-            let mut machine = MapField::empty(alloc);
-            let answer = call_joined(alloc, &words, front, back, &mut machine)?;
-            assert_eq!(rt; answer.status, 9, "{front}{back}");
-            assert_eq!(rt;
-                answer.written.as_slice(),
-                b"not built yet\n".as_slice(),
-                "{front}{back}"
-            );
-            assert!(rt; !answer.began, "{front}{back}");
-        }
+    for (front, back) in &UNBUILT {
+        let case = (*front, *back, 9, "not built yet\n");
+        tells(rt.alloc(), &["run", "--workers=2"], &case)?;
+        tells(rt.alloc(), &["run", "--record"], &case)?;
     }
     Ok(())
 }
 
 /// Calls by the status that they give: a word and a document, and the numbers of the read and of the write that fail.
-const STATUSES: [(&str, &str, u64, u64, u8); 10] = [
+static STATUSES: [(&str, &str, u64, u64, u8); 10] = [
     ("run", FILL, 0, 0, 0),
     ("check", NESTED, 0, 0, 0),
     ("make", "", 0, 0, 0),
@@ -338,29 +315,32 @@ const STATUSES: [(&str, &str, u64, u64, u8); 10] = [
     ("run", NESTED, 0, 0, 9),
 ];
 
+/// Whether runs with the record on a machine that was used answer as on an empty one.
+fn runs_as_ever(alloc: Global, machine: &mut MapField) -> Result<bool, Fail> {
+    for (front, back, status, written) in &RECORDS {
+        let answer = call_joined(alloc, &["run", "--record"], front, back, machine)?;
+        if !answer.is(*status, written.as_bytes()) {
+            return Ok(false);
+        }
+    }
+    Ok(true)
+}
+
 #[test]
 fn calls_do_not_depend_on_the_call_before(rt: HostRuntime) -> Result<(), Fail> {
     let alloc = rt.alloc();
-    for (word, text, failing_read, failing_write, status) in STATUSES {
+    for (word, text, failing_read, failing_write, status) in &STATUSES {
         let mut machine = MapField::empty(alloc);
         let before = call_failing(
             alloc,
-            &[word],
+            &[*word],
             text,
-            failing_read,
-            failing_write,
+            *failing_read,
+            *failing_write,
             &mut machine,
         )?;
-        assert_eq!(rt; before.status, status, "{word} {text}");
-        for (front, back, status, written) in RECORDS {
-            let answer = call_joined(alloc, &["run", "--record"], front, back, &mut machine)?;
-            assert_eq!(rt; answer.status, status, "{word} {text}");
-            assert_eq!(rt;
-                answer.written.as_slice(),
-                written.as_bytes(),
-                "{word} {text}"
-            );
-        }
+        assert!(rt; before.status == *status, "{word} {text}");
+        assert!(rt; runs_as_ever(alloc, &mut machine)?, "{word} {text}");
     }
     Ok(())
 }
