@@ -39,3 +39,10 @@ pub mod BeginsReading
 pub mod BeginsTree
 pub mod BeginsSaid
 pub mod BeginsNumbers
+pub mod OtherParts
+pub mod OtherCounts
+pub mod FrontParts
+pub mod FrontSteps
+pub mod FrontsStand
+pub mod FrontsWait
+mod WorkedFronts

@@ -7,6 +7,9 @@ pub mod Meaning
 pub mod Scripts
 pub mod Reading
 pub mod Record
+pub mod Fronts
+pub mod CountLaws
+pub mod FrontLaws
 pub mod Legal
 pub mod Paths
 pub mod Refusals

@@ -1,6 +1,8 @@
 //! The laws of the reading, each the contract of a function that does nothing: to call it is to have the law.
 
 ghost use Rattle.cd_tree.specs.Begins.{BeginsFollowFailures, BeginsNumberOn};
+ghost use Rattle.cd_tree.specs.CountLaws.{ReadsOwnCounts, ReadsPointsCounts, ReadsMembersCounts, EachIsInOrder, NumbersAreDistinct, CountsGrowByRepeats, CountsDoNotFall};
+ghost use Rattle.cd_tree.specs.FrontLaws.{FrontsLead, RecordsBegin, FirstPointIsThere, NextPointIsThere, NextTryIsThere, FrontsStand, MembersLead, WaitingIsQuiet, PassesGroups, StopsAtGroups};
 ghost use Rattle.cd_tree.specs.Laws.{RepeatsAreAtMostStrikes, StrikesAreAtMostEntries, RepeatsAreAtMostEntries, CountsAreAtMostOneMoreThanEntries, NestedViewFollows, NoLeakHalts, FoundAtRoots, FoundInPrograms, PathsDiffer, CoveredReach, ReachIsEntries, DisjointByDomains, CoveredByDomains, DetectableByPaths, NeedIsRoots, ParentsComeFirst, PathsGoDown, WordsStay};
 
 /// No more tries are repeated than faults strike, and no more faults strike than the script has entries.
@@ -76,4 +78,56 @@ pub fn words_stay()
 pub fn begins_follow_failures()
     ensures failures { BeginsFollowFailures }
     ensures numbers { BeginsNumberOn }
+{}
+
+// -- fronts and counts
+
+/// A domain's reading knows no counts but those of the domain and those below it, and leaves the others as they were.
+pub fn readings_know_their_own_counts()
+    ensures domains { ReadsOwnCounts }
+    ensures points { ReadsPointsCounts }
+    ensures members { ReadsMembersCounts }
+{}
+
+/// The members of a group can be read each by itself, from the counts when all were sent.
+pub fn members_are_read_each_by_itself()
+    ensures { EachIsInOrder }
+{}
+
+/// No number of a program's domains stands twice in one of them.
+pub fn numbers_are_distinct()
+    ensures { NumbersAreDistinct }
+{}
+
+/// A domain begins at most once, and once more for each try that was repeated, for each time that its number stands in the
+/// domain that is read; and no count falls.
+pub fn counts_grow_by_repeats()
+    ensures most { CountsGrowByRepeats }
+    ensures least { CountsDoNotFall }
+{}
+
+/// A front of a domain's reading, with what is left behind it, is the whole reading: so its events are a front of the record.
+pub fn the_reading_goes_on_from_each_front()
+    ensures leads { FrontsLead }
+    ensures events { RecordsBegin }
+{}
+
+/// The first point is there, the next point where the try comes to it, and the next try where it follows.
+pub fn a_front_is_where_the_reading_comes()
+    ensures first { FirstPointIsThere }
+    ensures points { NextPointIsThere }
+    ensures tries { NextTryIsThere }
+{}
+
+/// Where a front stands: in which try, at which point and with what behind it, and how many tries are to spare.
+pub fn fronts_stand_where_they_are()
+    ensures { FrontsStand }
+{}
+
+/// A domain waits at a front for the members of a group; their end leaves the point behind, or the end of the try.
+pub fn the_reading_goes_on_behind_members()
+    ensures leads { MembersLead }
+    ensures quiet { WaitingIsQuiet }
+    ensures done { PassesGroups }
+    ensures escalated { StopsAtGroups }
 {}
