@@ -46,3 +46,5 @@ pub mod FrontSteps
 pub mod FrontsStand
 pub mod FrontsWait
 mod WorkedFronts
+pub mod SavesDeclared
+pub mod LegalParts

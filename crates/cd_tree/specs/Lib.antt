@@ -15,3 +15,4 @@ pub mod Paths
 pub mod Refusals
 pub mod Begins
 pub mod Laws
+pub mod LegalLaws

@@ -3,6 +3,7 @@
 ghost use Rattle.cd_tree.specs.Begins.{BeginsFollowFailures, BeginsNumberOn};
 ghost use Rattle.cd_tree.specs.CountLaws.{ReadsOwnCounts, ReadsPointsCounts, ReadsMembersCounts, EachIsInOrder, NumbersAreDistinct, CountsGrowByRepeats, CountsDoNotFall};
 ghost use Rattle.cd_tree.specs.FrontLaws.{FrontsLead, RecordsBegin, FirstPointIsThere, NextPointIsThere, NextTryIsThere, FrontsStand, MembersLead, WaitingIsQuiet, PassesGroups, StopsAtGroups};
+ghost use Rattle.cd_tree.specs.LegalLaws.{LegalPieces, ReadingsSaveAsDeclared, RecordsSaveAsDeclared, LegalFrontsGoOn, LegalFrontsOfRecords};
 ghost use Rattle.cd_tree.specs.Laws.{RepeatsAreAtMostStrikes, StrikesAreAtMostEntries, RepeatsAreAtMostEntries, CountsAreAtMostOneMoreThanEntries, NestedViewFollows, NoLeakHalts, FoundAtRoots, FoundInPrograms, PathsDiffer, CoveredReach, ReachIsEntries, DisjointByDomains, CoveredByDomains, DetectableByPaths, NeedIsRoots, ParentsComeFirst, PathsGoDown, WordsStay};
 
 /// No more tries are repeated than faults strike, and no more faults strike than the script has entries.
@@ -130,4 +131,22 @@ pub fn the_reading_goes_on_behind_members()
     ensures quiet { WaitingIsQuiet }
     ensures done { PassesGroups }
     ensures escalated { StopsAtGroups }
+{}
+
+/// Legal records go together piece by piece.
+pub fn legal_records_go_together()
+    ensures { LegalPieces }
+{}
+
+/// The record of a program saves the entries of its domains as they are declared.
+pub fn entries_are_saved_as_they_are_declared()
+    ensures domains { ReadingsSaveAsDeclared }
+    ensures program { RecordsSaveAsDeclared }
+{}
+
+/// A record that is legal for a front of a program's record goes on to one that is legal for the whole: a pattern that does
+/// not give the root's words falls at the least place where it does not.
+pub fn legal_fronts_go_on()
+    ensures events { LegalFrontsGoOn }
+    ensures program { LegalFrontsOfRecords }
 {}
