@@ -4,6 +4,8 @@ use Rattle.std.proofs.lemmas.Bool.{cases_Bool, eqb-true}
 use Rattle.std.proofs.lemmas.Bool.Decides.{nat_tests}
 use Rattle.std.proofs.lemmas.Nat.Bits.{bit_at_or, bit_at_and, bit_at-zero, same_from_bits}
 use Rattle.std.specs.Int.{bit_at}
+use Rattle.cd_tree.specs.declared.event.Event.{Event}
+use Rattle.cd_tree.specs.declared.event.Event.TheVariants.{Reached}
 use Rattle.cd_tree.specs.KindSets.{no_kinds, kinds_without}
 use Rattle.cd_tree.specs.Domains.{Node, Body, Members, node, stop, run, group, body_behind, body_numbers, member_numbers}
 use Rattle.cd_tree.specs.Scripts.{struck, kinds_of}
@@ -25,6 +27,7 @@ there P o x e h = subst (IfThere P) e h
 -- what leads from a front to the one at the next point: the same is left of the whole try, in the same try
 pub record Onward (w : Case) (whole : Told TryEnd) (f g : Told Front) : Type 0 where
   pub leads : whole ≡ after g.past (behind_arrival w g.answer.stand g.counts)
+  pub ends : (before : List Event) × (g.past.events ≡ before ++ Reached g.answer.stand.trying.node g.answer.stand.point ∷ [])
   pub spare : g.answer.spare ≡ f.answer.spare
   pub trying : g.answer.stand.trying ≡ f.answer.stand.trying
   pub point : g.answer.stand.point ≡ suc f.answer.stand.point
@@ -41,7 +44,7 @@ notes_halt halts notes kinds quiet =
     let here : bit_at (bit_and notes halts) i ≡ bit_at 0 i = ap (λ n. bit_at n i) quiet in
     omega (arith, bit_at_and (bit_or notes kinds) halts i, bit_at_or notes kinds i, bit_at_and notes halts i, bit_at_and kinds halts i, bit_at-zero i))
 
-among_neither : (ms ns : List ℕ) (n : ℕ) → among (ms ++ ns) n ≡ false → (among ms n ≡ false) × (among ns n ≡ false)
+pub among_neither : (ms ns : List ℕ) (n : ℕ) → among (ms ++ ns) n ≡ false → (among ms n ≡ false) × (among ns n ≡ false)
 among_neither ms ns n e =
     elim (cases_Bool (among ms n)) [
       | inl here ↦ let no : true ≡ false = sym (among_left ms ns n here) ∙ e in cc
@@ -63,6 +66,7 @@ arrives_onward w whole f p rest seen now leads left quiet stay =
     let s : Stand = f.answer.stand in
     record {
       leads = leads ∙ arrives_leads w p f.answer.spare rest s.trying (suc s.point) seen now;
+      ends = (p.events, refl);
       spare = refl;
       trying = refl;
       point = refl;

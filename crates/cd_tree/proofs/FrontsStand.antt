@@ -53,7 +53,7 @@ abbrev LeadsOn : Case → Node → Told NodeEnd → Told Front → Type 0
 LeadsOn w d whole f = after f.past (behind_front w d f.answer f.counts) ≡ whole
 
 -- each property of what is there that follows from another
-if_there : {A : Type 0} (P Q : A → Type 0) (o : Option A) → ((x : A) → P x → Q x) → IfThere P o → IfThere Q o
+pub if_there : {A : Type 0} (P Q : A → Type 0) (o : Option A) → ((x : A) → P x → Q x) → IfThere P o → IfThere Q o
 if_there P Q None on h = tt
 if_there P Q (Some x) on h = on x h
 

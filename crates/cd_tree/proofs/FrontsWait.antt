@@ -80,12 +80,12 @@ waiting_is_quiet w (node id domain body) counts t point f members behind e waits
     let stands : StandsThere w id domain body counts t point f.answer f.counts = fronts_stand w id domain body counts t point f e in
     stands.notes ∙ waits.goes_on
 
-next_there : (w : Case) (d : Node) (counts : Counts) (t point : ℕ) (f : Told Front) → front_of_node w d counts t point ≡ Some f
+pub next_there : (w : Case) (d : Node) (counts : Counts) (t point : ℕ) (f : Told Front) → front_of_node w d counts t point ≡ Some f
     → front_of_node w d counts t (suc point) ≡ next_point w f
 next_there w d counts t point f e = next_point_is_there w d counts t point ∙ ap (option_and_then (next_point w)) e
 
 -- the next point where a domain waits, by the end of the members
-next_waiting : (w : Case) (f : Told Front) (members : Members) (behind : Body) (end : GroupEnd) → WaitsAt w f.answer members behind
+pub next_waiting : (w : Case) (f : Told Front) (members : Members) (behind : Body) (end : GroupEnd) → WaitsAt w f.answer members behind
     → (read_members w members f.counts).answer ≡ end
     → let s : Stand = f.answer.stand in
     let all : Told GroupEnd = read_members w members f.counts in

@@ -19,7 +19,8 @@ use Rattle.cd_tree.specs.Reading.{how_kept}
 use Rattle.cd_tree.specs.Legal.{entry_at, OfPattern, IsPatternAnd, GivesWords, Differs, DiffersFirst, IsKeptTo, MayStand, MayFall, Legal, nothing, same, fell, lapsed}
 use Rattle.cd_tree.specs.LegalLaws.{LegalPieces, SavesAsDeclared, HasPatternWords, LegalFrontsGoOn, LegalFrontsOfRecords}
 use Rattle.cd_tree.proofs.Apart.{Within, within}
-use Rattle.cd_tree.proofs.SavesDeclared.{Every, every_all, records_save}
+use Rattle.cd_tree.proofs.EventsTold.{Every, every_all}
+use Rattle.cd_tree.proofs.SavesDeclared.{records_save}
 
 legal_append : {tree : Outline} {loaded : Words} {actual expected more rest : List Event}
     → Legal tree loaded actual expected → Legal tree loaded more rest → Legal tree loaded (actual ++ more) (expected ++ rest)

@@ -46,5 +46,9 @@ pub mod FrontSteps
 pub mod FrontsStand
 pub mod FrontsWait
 mod WorkedFronts
+pub mod EventsTold
 pub mod SavesDeclared
 pub mod LegalParts
+pub mod TellOwn
+pub mod Arrivals
+pub mod ArrivalsAll

@@ -15,10 +15,10 @@ use Rattle.cd_tree.proofs.Numbers.{copies-append, copies-at_most_one}
 use Rattle.cd_tree.proofs.OtherParts.{on, put, on_inside, on_outside, begun_other, arrived_other, behind_group_other, with_member_other, tries_other}
 
 -- each of these numbers is in the set
-abbrev Holds : (ℕ → Bool) → List ℕ → Type 0
+abbrev pub Holds : (ℕ → Bool) → List ℕ → Type 0
 Holds P numbers = (n : ℕ) → among numbers n ≡ true → P n ≡ true
 
-among_first : (id : ℕ) (rest : List ℕ) → among (id ∷ rest) id ≡ true
+pub among_first : (id : ℕ) (rest : List ℕ) → among (id ∷ rest) id ≡ true
 among_first id rest = same id (among rest id)
   where
     same : (id : ℕ) (b : Bool) → ((id == id) || b) ≡ true
@@ -28,7 +28,7 @@ or_left : (a b : Bool) → a ≡ true → (a || b) ≡ true
 or_left true b e = refl
 or_left false b e = cc
 
-or_right : (a b : Bool) → b ≡ true → (a || b) ≡ true
+pub or_right : (a b : Bool) → b ≡ true → (a || b) ≡ true
 or_right true b e = refl
 or_right false b e = e
 

@@ -1,11 +1,13 @@
--- The laws of fronts: where they are, what they tell, and that the reading goes on from them.
-use Rattle.std.specs.Prelude.{◌≡◌, ℕ, suc, ◌+◌, ◌-◌, false, bit_and, bit_or, List, ◌++◌, Option, None, Some}
+-- The laws of records and their fronts: who tells the events, where fronts are and what they tell, and that the reading
+-- goes on from them.
+use Rattle.std.specs.Prelude.{◌≡◌, ℕ, suc, ◌+◌, ◌-◌, true, false, bit_and, bit_or, List, [], ◌∷◌, ◌++◌, Option, None, Some, All}
 use Rattle.std.specs.Option.{option_and_then}
 use Rattle.cd_tree.specs.declared.domain.NodeId.{NodeId}
 use Rattle.cd_tree.specs.declared.domain.Domain.{Domain}
 use Rattle.cd_tree.specs.declared.event.Event.{Event}
+use Rattle.cd_tree.specs.declared.event.Event.TheVariants.{Begin, Saved, Fell, Lapsed, Refilled, Reached, Halted, Found, Complete, Escalate}
 use Rattle.cd_tree.specs.KindSets.{no_kinds}
-use Rattle.cd_tree.specs.Domains.{Node, Body, Members, node, domain_of, body_behind, body_numbers}
+use Rattle.cd_tree.specs.Domains.{Node, Body, Members, node, body_behind, node_numbers, body_numbers}
 use Rattle.cd_tree.specs.Scripts.{struck, kinds_of}
 use Rattle.cd_tree.specs.Reading.{Case, Counts, Blame, joined, Told, after, GroupEnd, AllDone, SomeEscalated, read_node, read_members}
 use Rattle.cd_tree.specs.Fronts.{Front, arrives, next_point, next_try, first_front, front_of_node, behind_front, behind_members, WaitsAt}
@@ -22,6 +24,47 @@ abbrev pub RecordsBegin : Type 0
 RecordsBegin =
     (w : Case) (d : Node) (counts : Counts) (t point : ℕ) (f : Told Front) → front_of_node w d counts t point ≡ Some f
     → (rest : List Event) × ((read_node w d counts).past.events ≡ f.past.events ++ rest)
+
+-- the domain that tells an event
+abbrev pub teller_of : Event → NodeId
+teller_of (Begin id number) = id
+teller_of (Saved id entry how) = id
+teller_of (Fell id entry place wanted found) = id
+teller_of (Lapsed id entry seen found) = id
+teller_of (Refilled id entry) = id
+teller_of (Reached id point) = id
+teller_of (Halted id kinds) = id
+teller_of (Found id kinds) = id
+teller_of (Complete id) = id
+teller_of (Escalate id) = id
+
+-- a domain's reading tells events of the domain and of those below it alone
+abbrev pub DomainsTellTheirOwn : Type 0
+DomainsTellTheirOwn =
+    (w : Case) (d : Node) (counts : Counts)
+    → All (λ (event : Event). among (node_numbers d) (teller_of event).0 ≡ true) (read_node w d counts).past.events
+
+-- a front at this point whose events are these, with the arrival behind them
+pub record FrontBehind (w : Case) (id : NodeId) (domain : Domain) (body : Body) (counts : Counts) (before : List Event) (point : ℕ) : Type 0 where
+  pub attempt : ℕ
+  pub front : Told Front
+  pub is : front_of_node w (node id domain body) counts attempt point ≡ Some front
+  pub events : front.past.events ≡ before ++ Reached id point ∷ []
+
+-- a front ends with the arrival at its point
+abbrev pub FrontsEndThere : Type 0
+FrontsEndThere =
+    (w : Case) (id : NodeId) (domain : Domain) (body : Body) (counts : Counts) (t point : ℕ) (f : Told Front)
+    → front_of_node w (node id domain body) counts t point ≡ Some f
+    → (before : List Event) × (f.past.events ≡ before ++ Reached id point ∷ [])
+
+-- each arrival of a domain in its record is a front of it
+abbrev pub ArrivalsAreFronts : Type 0
+ArrivalsAreFronts =
+    (w : Case) (id : NodeId) (domain : Domain) (body : Body) (counts : Counts) (before rest : List Event) (point : ℕ)
+    → among (body_numbers body) id.0 ≡ false
+    → (read_node w (node id domain body) counts).past.events ≡ before ++ Reached id point ∷ rest
+    → FrontBehind w id domain body counts before point
 
 -- the first try is there at its first point
 abbrev pub FirstPointIsThere : Type 0

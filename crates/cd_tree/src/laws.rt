@@ -2,7 +2,7 @@
 
 ghost use Rattle.cd_tree.specs.Begins.{BeginsFollowFailures, BeginsNumberOn};
 ghost use Rattle.cd_tree.specs.CountLaws.{ReadsOwnCounts, ReadsPointsCounts, ReadsMembersCounts, EachIsInOrder, NumbersAreDistinct, CountsGrowByRepeats, CountsDoNotFall};
-ghost use Rattle.cd_tree.specs.FrontLaws.{FrontsLead, RecordsBegin, FirstPointIsThere, NextPointIsThere, NextTryIsThere, FrontsStand, MembersLead, WaitingIsQuiet, PassesGroups, StopsAtGroups};
+ghost use Rattle.cd_tree.specs.FrontLaws.{DomainsTellTheirOwn, FrontsEndThere, ArrivalsAreFronts, FrontsLead, RecordsBegin, FirstPointIsThere, NextPointIsThere, NextTryIsThere, FrontsStand, MembersLead, WaitingIsQuiet, PassesGroups, StopsAtGroups};
 ghost use Rattle.cd_tree.specs.LegalLaws.{LegalPieces, ReadingsSaveAsDeclared, RecordsSaveAsDeclared, LegalFrontsGoOn, LegalFrontsOfRecords};
 ghost use Rattle.cd_tree.specs.Laws.{RepeatsAreAtMostStrikes, StrikesAreAtMostEntries, RepeatsAreAtMostEntries, CountsAreAtMostOneMoreThanEntries, NestedViewFollows, NoLeakHalts, FoundAtRoots, FoundInPrograms, PathsDiffer, CoveredReach, ReachIsEntries, DisjointByDomains, CoveredByDomains, DetectableByPaths, NeedIsRoots, ParentsComeFirst, PathsGoDown, WordsStay};
 
@@ -111,6 +111,17 @@ pub fn counts_grow_by_repeats()
 pub fn the_reading_goes_on_from_each_front()
     ensures leads { FrontsLead }
     ensures events { RecordsBegin }
+{}
+
+/// The events in a domain's record are of that domain and of those below it.
+pub fn domains_tell_their_own_events()
+    ensures { DomainsTellTheirOwn }
+{}
+
+/// The arrivals of a domain in its record are its fronts, each of which ends with one.
+pub fn arrivals_are_fronts()
+    ensures ends { FrontsEndThere }
+    ensures arrivals { ArrivalsAreFronts }
 {}
 
 /// The first point is there, the next point where the try comes to it, and the next try where it follows.
