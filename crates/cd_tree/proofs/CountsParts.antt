@@ -15,6 +15,13 @@ pub record Grows {A : Type 0} (n base many : ℕ) (t : Told A) : Type 0 where
   pub count : t.counts n ≤ base + many * (1 + t.past.repeats)
   pub least : base ≤ t.counts n
 
+-- a bound by more copies holds too
+pub grows_more : {A : Type 0} (n base many more : ℕ) (t : Told A) → many ≤ more → Grows n base many t → Grows n base more t
+grows_more n base many more t most h =
+    let k : t.counts n ≤ base + many * (1 + t.past.repeats) = h.count in
+    let m : many * (1 + t.past.repeats) ≤ more * (1 + t.past.repeats) = mul-le-mul most (le_refl (1 + t.past.repeats)) in
+    record { count = omega arith; least = h.least }
+
 -- what is told before without a repeat adds nothing
 pub quiet_grows : {A : Type 0} (n base many : ℕ) (past : Past) (t : Told A) → past.repeats ≡ 0 → Grows n base many t →
     Grows n base many (after past t)
@@ -29,7 +36,7 @@ halted_grows : (n many : ℕ) (h : Try) (halts notes : ℕ) (counts : Counts) (f
 halted_grows n many h halts notes counts true = record { count = omega arith; least = omega arith }
 halted_grows n many h halts notes counts false = record { count = omega arith; least = omega arith }
 
-unless_halted_grows : (n many : ℕ) (h : Try) (halts notes : ℕ) (counts : Counts) (next : ℕ → Told TryEnd) (none : Bool) →
+pub unless_halted_grows : (n many : ℕ) (h : Try) (halts notes : ℕ) (counts : Counts) (next : ℕ → Told TryEnd) (none : Bool) →
     Grows n (counts n) many (next notes) → Grows n (counts n) many (unless_halted h halts notes counts next none)
 unless_halted_grows n many h halts notes counts next true on = on
 unless_halted_grows n many h halts notes counts next false on =
@@ -59,7 +66,7 @@ after_grows n base first second t next h k =
       least = omega arith;
     }
 
-group_ended_grows : (n many : ℕ) (h : Try) (notes : ℕ) (counts : Counts) (end : GroupEnd) (next : ℕ → Counts → Told TryEnd) →
+pub group_ended_grows : (n many : ℕ) (h : Try) (notes : ℕ) (counts : Counts) (end : GroupEnd) (next : ℕ → Counts → Told TryEnd) →
     ((seen : ℕ) → Grows n (counts n) many (next seen counts)) → Grows n (counts n) many (group_ended h notes counts end next)
 group_ended_grows n many h notes counts (AllDone leaks) next on = on (bit_or notes leaks)
 group_ended_grows n many h notes counts (SomeEscalated cause over) next on = record { count = omega arith; least = omega arith }
@@ -81,7 +88,7 @@ counted_more n d of now many repeats h = by (n == d) h
     by true k = growth-joined of (of + 1) now 1 many 0 repeats (omega arith) k
     by false k = growth-joined of of now 0 many 0 repeats (omega arith) k
 
-counted_least : (n d of now : ℕ) → (if n == d then of + 1 else of) ≤ now → of ≤ now
+pub counted_least : (n d of now : ℕ) → (if n == d then of + 1 else of) ≤ now → of ≤ now
 counted_least n d of now h = by (n == d) h
   where
     by : (b : Bool) → (if b then of + 1 else of) ≤ now → of ≤ now

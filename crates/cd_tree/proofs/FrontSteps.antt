@@ -1,5 +1,5 @@
 -- From one front to the next: what stays, and that the reading goes on from either.
-use Rattle.std.proofs.Common.{◌≡◌, ℕ, zero, suc, ◌+◌, ◌-◌, Bool, true, false, ◌==◌, ◌||◌, bit_or, bit_and, if◌then◌else◌, List, [], ◌∷◌, ◌++◌, Option, None, Some, length, refl, ap, sym, ◌∙◌, subst, arith, inl, inr}
+use Rattle.std.proofs.Common.{◌≡◌, ℕ, zero, suc, ◌+◌, ◌-◌, Bool, true, false, ◌==◌, ◌||◌, bit_or, bit_and, if◌then◌else◌, List, [], ◌∷◌, ◌++◌, Option, None, Some, length, refl, ap, sym, ◌∙◌, subst, arith, inl, inr, ◌≤◌, le_refl}
 use Rattle.std.proofs.lemmas.Bool.{cases_Bool, eqb-true}
 use Rattle.std.proofs.lemmas.Bool.Decides.{nat_tests}
 use Rattle.std.proofs.lemmas.Nat.Bits.{bit_at_or, bit_at_and, bit_at-zero, same_from_bits}
@@ -13,6 +13,7 @@ use Rattle.cd_tree.specs.Reading.{Case, Counts, Past, joined, Told, told, after,
 use Rattle.cd_tree.specs.Fronts.{Stand, Front, arrives, begins, past_group, past_item, where_none, next_point, behind_point, behind_arrival, tried}
 use Rattle.cd_tree.specs.CountLaws.{among}
 use Rattle.cd_tree.proofs.Leaks.{QuietGroup, none_is_quiet, or_is_quiet, members_quiet}
+use Rattle.cd_tree.proofs.CountsReading.{member-counts-do-not-fall}
 use Rattle.cd_tree.proofs.OtherCounts.{points_others_stay, members_others_stay, among_left, among_right}
 use Rattle.cd_tree.proofs.FrontParts.{repeated, after_twice, arrives_leads, goes_on}
 
@@ -36,6 +37,7 @@ pub record Onward (w : Case) (whole : Told TryEnd) (f g : Told Front) : Type 0 w
   pub notes : bit_and f.answer.stand.notes w.halts ≡ no_kinds
       → bit_and g.answer.stand.notes w.halts ≡ bit_and g.answer.stand.kinds w.halts
   pub counts : (n : ℕ) → among (body_numbers f.answer.stand.rest) n ≡ false → g.counts n ≡ f.counts n
+  pub rises : (n : ℕ) → f.counts n ≤ g.counts n
 
 -- notes that do not halt add no halting kind
 pub notes_halt : (halts notes kinds : ℕ) → bit_and notes halts ≡ no_kinds → bit_and (bit_or notes kinds) halts ≡ bit_and kinds halts
@@ -61,8 +63,9 @@ arrives_onward : (w : Case) (whole : Told TryEnd) (f : Told Front) (p : Past) (r
     → body_behind 1 f.answer.stand.rest ≡ rest
     → (bit_and f.answer.stand.notes w.halts ≡ no_kinds → bit_and seen w.halts ≡ no_kinds)
     → ((n : ℕ) → among (body_numbers f.answer.stand.rest) n ≡ false → now n ≡ f.counts n)
+    → ((n : ℕ) → f.counts n ≤ now n)
     → Onward w whole f (after p (arrives w f.answer.spare rest f.answer.stand.trying (suc f.answer.stand.point) seen now))
-arrives_onward w whole f p rest seen now leads left quiet stay =
+arrives_onward w whole f p rest seen now leads left quiet stay rises =
     let s : Stand = f.answer.stand in
     record {
       leads = leads ∙ arrives_leads w p f.answer.spare rest s.trying (suc s.point) seen now;
@@ -74,19 +77,21 @@ arrives_onward w whole f p rest seen now leads left quiet stay =
       kinds = refl;
       notes = λ before. notes_halt w.halts seen (kinds_of (struck w.faults s.trying.node s.trying.begin (suc s.point))) (quiet before);
       counts = stay;
+      rises = rises;
     }
 
 -- behind a group of which this is the end
 group_onward : (w : Case) (f : Told Front) (rest : Body) (t : Told GroupEnd) (end : GroupEnd)
     → body_behind 1 f.answer.stand.rest ≡ rest → QuietGroup w.halts end
     → ((n : ℕ) → among (body_numbers f.answer.stand.rest) n ≡ false → t.counts n ≡ f.counts n)
+    → ((n : ℕ) → f.counts n ≤ t.counts n)
     → IfThere (λ g. Onward w
     (after f.past (after t.past (group_ended f.answer.stand.trying f.answer.stand.notes t.counts end
     (λ all now. read_points w rest f.answer.stand.trying (suc f.answer.stand.point) all now)))) f (after f.past g))
     (past_group t end (λ leaks. arrives w f.answer.spare rest f.answer.stand.trying (suc f.answer.stand.point)
     (bit_or f.answer.stand.notes leaks) t.counts))
-group_onward w f rest t (SomeEscalated cause over) left quiet stay = tt
-group_onward w f rest t (AllDone leaks) left quiet stay =
+group_onward w f rest t (SomeEscalated cause over) left quiet stay rises = tt
+group_onward w f rest t (AllDone leaks) left quiet stay rises =
     let s : Stand = f.answer.stand in
     let seen : ℕ = bit_or s.notes leaks in
     let whole : Told TryEnd = after f.past (after t.past (read_points w rest s.trying (suc s.point) seen t.counts)) in
@@ -94,7 +99,7 @@ group_onward w f rest t (AllDone leaks) left quiet stay =
     subst (Onward w whole f) (after_twice f.past t.past g)
     (arrives_onward w whole f (joined f.past t.past) rest seen t.counts
     (sym (after_twice f.past t.past (read_points w rest s.trying (suc s.point) seen t.counts))) left
-    (λ before. or_is_quiet w.halts s.notes leaks before quiet) stay)
+    (λ before. or_is_quiet w.halts s.notes leaks before quiet) stay rises)
 
 -- behind the item at a point at which no kind halts
 item_onward : (w : Case) (past : Past) (counts : Counts) (spare : ℕ) (body : Body) (h : Try) (point kinds notes : ℕ)
@@ -104,12 +109,13 @@ item_onward : (w : Case) (past : Past) (counts : Counts) (spare : ℕ) (body : B
 item_onward w past counts spare stop h point kinds notes = tt
 item_onward w past counts spare (run op rest) h point kinds notes =
     let f : Told Front = told past counts (record { spare = spare; stand = record { trying = h; point = point; kinds = kinds; notes = notes; rest = run op rest } }) in
-    arrives_onward w (after past (read_points w rest h (suc point) notes counts)) f past rest notes counts refl refl (λ before. before) (λ n e. refl)
+    arrives_onward w (after past (read_points w rest h (suc point) notes counts)) f past rest notes counts refl refl (λ before. before) (λ n e. refl) (λ n. le_refl (counts n))
 item_onward w past counts spare (group members rest) h point kinds notes =
     let f : Told Front = told past counts (record { spare = spare; stand = record { trying = h; point = point; kinds = kinds; notes = notes; rest = group members rest } }) in
     let t : Told GroupEnd = read_members w members counts in
     group_onward w f rest t t.answer refl (members_quiet w members counts)
     (λ n e. members_others_stay w members counts n (among_neither (member_numbers members) (body_numbers rest) n e).0)
+    (λ n. member-counts-do-not-fall w members counts n)
 
 -- a point is passed where no kind halts at it
 none_onward : (w : Case) (f : Told Front) (whole : Told TryEnd) (none : Bool) (next : Option (Told Front))

@@ -50,11 +50,11 @@ pub next_try_is_there : NextTryIsThere
 next_try_is_there w d counts zero point f e = cc
 next_try_is_there w d counts (suc t) point f e = next_in_try w d counts t point f e
 
-quiet_test : (kinds : ℕ) → kinds ≡ no_kinds → (kinds == no_kinds) ≡ true
+pub quiet_test : (kinds : ℕ) → kinds ≡ no_kinds → (kinds == no_kinds) ≡ true
 quiet_test kinds e = rw e refl
 
 -- what is left of the try in hand where its domain waits: the members, and what their end leaves
-waits_leads : (w : Case) (s : Stand) (counts : Counts) (members : Members) (behind : Body) → s.rest ≡ group members behind
+pub waits_leads : (w : Case) (s : Stand) (counts : Counts) (members : Members) (behind : Body) → s.rest ≡ group members behind
     → bit_and s.kinds w.halts ≡ no_kinds
     → let all : Told GroupEnd = read_members w members counts in
     behind_arrival w s counts

@@ -1,5 +1,5 @@
 -- Legal records go together piece by piece, and go on: what the reading expects next can always be told legally.
-use Rattle.std.proofs.Common.{◌≡◌, ◌≢◌, ℕ, zero, suc, ◌+◌, ◌-◌, ◌<◌, ◌≤◌, ◌⊎◌, Bool, true, false, ◌==◌, List, [], ◌∷◌, ◌++◌, Option, None, Some, IsSome, IsSomeAnd, refl, ap, sym, ◌∙◌, subst, arith, inl, inr}
+use Rattle.std.proofs.Common.{◌≡◌, ◌≢◌, ◌↔◌, ℕ, zero, suc, ◌+◌, ◌-◌, ◌<◌, ◌≤◌, ◌⊎◌, Bool, true, false, ◌==◌, List, [], ◌∷◌, ◌++◌, Option, None, Some, IsSome, IsSomeAnd, refl, ap, sym, ◌∙◌, subst, arith, inl, inr}
 use Rattle.std.proofs.lemmas.Bool.{cases_eq, cases_Bool}
 use Rattle.std.specs.List.{All}
 use Rattle.cd_base.specs.declared.place.Place.{Place}
@@ -17,7 +17,7 @@ use Rattle.cd_tree.specs.declared.event.Event.TheVariants.{Begin, Saved, Fell, L
 use Rattle.cd_tree.specs.Outlines.{Outline}
 use Rattle.cd_tree.specs.Reading.{how_kept}
 use Rattle.cd_tree.specs.Legal.{entry_at, OfPattern, IsPatternAnd, GivesWords, Differs, DiffersFirst, IsKeptTo, MayStand, MayFall, Legal, nothing, same, fell, lapsed}
-use Rattle.cd_tree.specs.LegalLaws.{LegalPieces, SavesAsDeclared, HasPatternWords, LegalFrontsGoOn, LegalFrontsOfRecords}
+use Rattle.cd_tree.specs.LegalLaws.{LegalPieces, SavesAsDeclared, HasPatternWords, LegalFrontsGoOn, LegalFrontsOfRecords, LegalFront, nothing_yet, same_so_far, fell_so_far, falling, lapsed_so_far, lapsing, LegalFrontsAreFronts}
 use Rattle.cd_tree.proofs.Apart.{Within, within}
 use Rattle.cd_tree.proofs.EventsTold.{Every, every_all}
 use Rattle.cd_tree.proofs.SavesDeclared.{records_save}
@@ -197,3 +197,61 @@ legal_fronts_of_records tree faults loaded is words actual front rest e legal =
     subst (Every (SavesAsDeclared tree)) (sym e) (every_all (SavesAsDeclared tree) _ (records_save tree faults is)) in
     let others : (more : List Event) × Legal tree loaded more rest = rest_told tree loaded rest words (every_behind (SavesAsDeclared tree) front rest every) in
     (others.0, subst (Legal tree loaded (actual ++ others.0)) e (legal_append legal others.1))
+
+front_goes_on : {tree : Outline} {loaded : Words} {actual expected : List Event} → HasPatternWords tree loaded
+    → LegalFront tree loaded actual expected → Every (SavesAsDeclared tree) expected
+    → (more : List Event) × Legal tree loaded (actual ++ more) expected
+front_goes_on words (nothing_yet expected) every = rest_told _ _ expected words every
+front_goes_on words (same_so_far event actual expected stands front) (here, every) =
+    let on = front_goes_on words front every in
+    (on.0, same event _ _ stands on.1)
+front_goes_on words (fell_so_far id entry place wanted found actual expected falls front) (here, every) =
+    let on = front_goes_on words front every in
+    (on.0, fell id entry place wanted found _ _ falls on.1)
+front_goes_on words (falling id entry place wanted found expected falls) (here, every) =
+    let on = rest_told _ _ expected words every in
+    (Saved id entry kept.Copy ∷ on.0, fell id entry place wanted found _ _ falls on.1)
+front_goes_on words (lapsed_so_far id entry seen found actual expected gone front) (here, every) =
+    let on = front_goes_on words front every in
+    (on.0, lapsed id entry seen found _ _ gone on.1)
+front_goes_on words (lapsing id entry seen found expected gone) (here, every) =
+    let on = rest_told _ _ expected words every in
+    (Saved id entry kept.Copy ∷ on.0, lapsed id entry seen found _ _ gone on.1)
+
+front_of_legal : {tree : Outline} {loaded : Words} {whole expected : List Event} → Legal tree loaded whole expected
+    → (actual more : List Event) → whole ≡ actual ++ more → LegalFront tree loaded actual expected
+front_of_legal legal [] more e = nothing_yet _
+front_of_legal nothing (first ∷ actual) more e = absurd (cc)
+front_of_legal {tree} {loaded} (same event whole expected stands rest) (first ∷ actual) more e =
+    let here : event ≡ first = cc in
+    let there : whole ≡ actual ++ more = cc in
+    subst (λ (x : Event). LegalFront tree loaded (x ∷ actual) (event ∷ expected)) here
+    (same_so_far event actual expected stands (front_of_legal rest actual more there))
+front_of_legal {tree} {loaded} (fell id entry place wanted found whole expected falls rest) (first ∷ []) more e =
+    let here : Fell id entry place wanted found ≡ first = cc in
+    subst (λ (x : Event). LegalFront tree loaded (x ∷ []) (Saved id entry kept.Regen ∷ expected)) here
+    (falling id entry place wanted found expected falls)
+front_of_legal {tree} {loaded} (fell id entry place wanted found whole expected falls rest) (first ∷ second ∷ actual) more e =
+    let here : Fell id entry place wanted found ≡ first = cc in
+    let next : Saved id entry kept.Copy ≡ second = cc in
+    let there : whole ≡ actual ++ more = cc in
+    subst (λ (x : Event). LegalFront tree loaded (x ∷ second ∷ actual) (Saved id entry kept.Regen ∷ expected)) here
+    (subst (λ (y : Event). LegalFront tree loaded (Fell id entry place wanted found ∷ y ∷ actual) (Saved id entry kept.Regen ∷ expected)) next
+    (fell_so_far id entry place wanted found actual expected falls (front_of_legal rest actual more there)))
+front_of_legal {tree} {loaded} (lapsed id entry seen found whole expected gone rest) (first ∷ []) more e =
+    let here : Lapsed id entry seen found ≡ first = cc in
+    subst (λ (x : Event). LegalFront tree loaded (x ∷ []) (Saved id entry kept.Refer ∷ expected)) here
+    (lapsing id entry seen found expected gone)
+front_of_legal {tree} {loaded} (lapsed id entry seen found whole expected gone rest) (first ∷ second ∷ actual) more e =
+    let here : Lapsed id entry seen found ≡ first = cc in
+    let next : Saved id entry kept.Copy ≡ second = cc in
+    let there : whole ≡ actual ++ more = cc in
+    subst (λ (x : Event). LegalFront tree loaded (x ∷ second ∷ actual) (Saved id entry kept.Refer ∷ expected)) here
+    (subst (λ (y : Event). LegalFront tree loaded (Lapsed id entry seen found ∷ y ∷ actual) (Saved id entry kept.Refer ∷ expected)) next
+    (lapsed_so_far id entry seen found actual expected gone (front_of_legal rest actual more there)))
+
+pub legal_fronts_are_fronts : LegalFrontsAreFronts
+legal_fronts_are_fronts tree loaded words actual expected all = (
+  λ front. front_goes_on words front (every_all (SavesAsDeclared tree) expected all),
+  λ on. front_of_legal on.1 actual on.0 refl,
+)

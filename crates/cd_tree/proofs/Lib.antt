@@ -52,3 +52,4 @@ pub mod LegalParts
 pub mod TellOwn
 pub mod Arrivals
 pub mod ArrivalsAll
+pub mod FrontCounts

@@ -131,7 +131,7 @@ members_others_stay w members counts n e =
     ap (λ (x : Told GroupEnd). x.counts n) (reads_members_counts w members counts counts (λ k at. refl))
     ∙ on_outside (among (member_numbers members)) t.counts counts n e
 
-node_others_stay : (w : Case) (d : Node) (counts : Counts) (n : ℕ) → among (node_numbers d) n ≡ false
+pub node_others_stay : (w : Case) (d : Node) (counts : Counts) (n : ℕ) → among (node_numbers d) n ≡ false
     → (read_node w d counts).counts n ≡ counts n
 node_others_stay w d counts n e =
     let t : Told NodeEnd = read_node w d counts in
@@ -150,7 +150,7 @@ among_some n (k ∷ numbers) e =
     ]
 
 -- two lists that have no number twice share none
-apart : (ms ns : List ℕ) (n : ℕ) → AreDistinct (ms ++ ns) → among ns n ≡ true → among ms n ≡ false
+pub apart : (ms ns : List ℕ) (n : ℕ) → AreDistinct (ms ++ ns) → among ns n ≡ true → among ms n ≡ false
 apart ms ns n distinct e =
     elim (cases_Bool (among ms n)) [
       | inl here ↦
@@ -159,7 +159,7 @@ apart ms ns n distinct e =
       | inr there ↦ there
     ]
 
-distinct_right : (ms ns : List ℕ) → AreDistinct (ms ++ ns) → AreDistinct ns
+pub distinct_right : (ms ns : List ℕ) → AreDistinct (ms ++ ns) → AreDistinct ns
 distinct_right ms ns distinct n = let one : copies n (ms ++ ns) ≤ 1 = distinct n in omega (arith, copies-append n ms ns)
 
 distinct_left : (ms ns : List ℕ) → AreDistinct (ms ++ ns) → AreDistinct ms

@@ -71,6 +71,20 @@ CountsGrowByRepeats =
 abbrev pub CountsDoNotFall : Type 0
 CountsDoNotFall = (w : Case) (d : Node) (counts : Counts) (n : ℕ) → counts n ≤ (read_node w d counts).counts n
 
+abbrev pub MemberCountsDoNotFall : Type 0
+MemberCountsDoNotFall = (w : Case) (members : Members) (counts : Counts) (n : ℕ) → counts n ≤ (read_members w members counts).counts n
+
+-- a property of each member of a group
+abbrev pub EachMember : (Node → Type 0) → Members → Type 0
+EachMember P no_more = Unit {0}
+EachMember P (member first rest) = P first × EachMember P rest
+
+-- no count that a member comes to by itself is above that of the whole group
+abbrev pub MembersStayBelow : Type 0
+MembersStayBelow =
+    (w : Case) (members : Members) (sent : Counts) (n : ℕ) → AreDistinct (member_numbers members)
+    → EachMember (λ d. (read_node w d sent).counts n ≤ (read_members w members sent).counts n) members
+
 -- the numbers in each domain of a program are distinct
 abbrev pub NumbersAreDistinct : Type 0
 NumbersAreDistinct = (tree : Outline) → IsTree tree → OfEach tree (λ d. AreDistinct (node_numbers d))

@@ -1,6 +1,6 @@
 -- The laws of records and their fronts: who tells the events, where fronts are and what they tell, and that the reading
 -- goes on from them.
-use Rattle.std.specs.Prelude.{◌≡◌, ℕ, suc, ◌+◌, ◌-◌, true, false, bit_and, bit_or, List, [], ◌∷◌, ◌++◌, Option, None, Some, All}
+use Rattle.std.specs.Prelude.{◌≡◌, ℕ, suc, ◌+◌, ◌-◌, ◌≤◌, true, false, bit_and, bit_or, List, [], ◌∷◌, ◌++◌, Option, None, Some, All}
 use Rattle.std.specs.Option.{option_and_then}
 use Rattle.cd_tree.specs.declared.domain.NodeId.{NodeId}
 use Rattle.cd_tree.specs.declared.domain.Domain.{Domain}
@@ -132,3 +132,29 @@ StopsAtGroups =
     → front_of_node w d counts t point ≡ Some f → WaitsAt w f.answer members behind
     → (read_members w members f.counts).answer ≡ SomeEscalated cause over
     → front_of_node w d counts t (suc point) ≡ None
+
+-- where a try goes on from a point no kind that it has noted halts
+abbrev pub PassedPointsAreQuiet : Type 0
+PassedPointsAreQuiet =
+    (w : Case) (d : Node) (counts : Counts) (t point : ℕ) (f g : Told Front)
+    → front_of_node w d counts t point ≡ Some f → front_of_node w d counts t (suc point) ≡ Some g
+    → bit_and f.answer.stand.notes w.halts ≡ no_kinds
+
+-- no kind that the members of a group leak halts
+abbrev pub NoGroupLeakHalts : Type 0
+NoGroupLeakHalts =
+    (w : Case) (members : Members) (counts : Counts) (leaks : ℕ) → (read_members w members counts).answer ≡ AllDone leaks
+    → bit_and leaks w.halts ≡ no_kinds
+
+-- the counts at a front lie between those before the reading and those after it
+abbrev pub FrontCountsLieBetween : Type 0
+FrontCountsLieBetween =
+    (w : Case) (d : Node) (counts : Counts) (t point : ℕ) (f : Told Front) (n : ℕ) → front_of_node w d counts t point ≡ Some f
+    → (counts n ≤ f.counts n) × (f.counts n ≤ (read_node w d counts).counts n)
+
+-- those behind the members that a front waits for are not above those after the reading either
+abbrev pub MemberCountsLieBelow : Type 0
+MemberCountsLieBelow =
+    (w : Case) (d : Node) (counts : Counts) (t point : ℕ) (f : Told Front) (members : Members) (behind : Body) (n : ℕ)
+    → front_of_node w d counts t point ≡ Some f → WaitsAt w f.answer members behind
+    → (read_members w members f.counts).counts n ≤ (read_node w d counts).counts n

@@ -1,18 +1,20 @@
 -- Laws of legal records: they go together piece by piece, and a legal front of a record goes on to a legal whole.
-use Rattle.std.specs.Prelude.{◌≡◌, ℕ, true, List, ◌++◌, Option, Some, All, IsSome, IsSomeAnd}
+use Rattle.std.specs.Prelude.{◌≡◌, ◌≢◌, ◌↔◌, ℕ, true, List, [], ◌∷◌, ◌++◌, Option, Some, All, IsSome, IsSomeAnd}
 use Rattle.cd_base.specs.declared.place.Place.{Place}
 use Rattle.cd_base.specs.declared.pattern.Pattern.{Pattern}
 use Rattle.cd_base.specs.Words.{Words, in_range}
 use Rattle.cd_tree.specs.declared.domain.How.TheVariants.{Regen}
 use Rattle.cd_tree.specs.declared.domain.Entry.{Entry}
 use Rattle.cd_tree.specs.declared.document.Fault.{Fault}
+use Rattle.cd_tree.specs.declared.domain.NodeId.{NodeId}
+use Rattle.cd_tree.specs.declared.event.Kept.TheVariants as kept
 use Rattle.cd_tree.specs.declared.event.Event.{Event}
 use Rattle.cd_tree.specs.declared.event.Event.TheVariants.{Begin, Saved, Fell, Lapsed, Refilled, Reached, Halted, Found, Complete, Escalate}
 use Rattle.cd_tree.specs.Domains.{Node}
 use Rattle.cd_tree.specs.Outlines.{Outline, IsTree}
 use Rattle.cd_tree.specs.Reading.{Case, Counts, how_kept, read_node}
 use Rattle.cd_tree.specs.Record.{record_of}
-use Rattle.cd_tree.specs.Legal.{entry_at, Legal}
+use Rattle.cd_tree.specs.Legal.{entry_at, MayStand, MayFall, Legal}
 use Rattle.cd_tree.specs.Laws.{OfEach}
 
 -- two legal records, one behind the other
@@ -62,3 +64,28 @@ LegalFrontsOfRecords =
     (tree : Outline) (faults : List Fault) (loaded : Words) → IsTree tree → HasPatternWords tree loaded
     → (actual front rest : List Event) → front ++ rest ≡ record_of tree faults → Legal tree loaded actual front
     → (more : List Event) × Legal tree loaded (actual ++ more) (record_of tree faults)
+
+-- what a record may begin with, first, for the reading's, second; it may stop between a fall and the copy that follows
+pub data LegalFront (tree : Outline) (loaded : Words) : List Event → List Event → Type 0 where
+  nothing_yet : (expected : List Event) → LegalFront tree loaded [] expected
+  same_so_far : (event : Event) (actual expected : List Event) (stands : MayStand tree loaded event)
+      (rest : LegalFront tree loaded actual expected) → LegalFront tree loaded (event ∷ actual) (event ∷ expected)
+  fell_so_far : (id : NodeId) (entry : ℕ) (place : Place) (wanted found : ℕ) (actual expected : List Event)
+      (falls : MayFall tree loaded id entry place wanted found) (rest : LegalFront tree loaded actual expected)
+      → LegalFront tree loaded (Fell id entry place wanted found ∷ Saved id entry kept.Copy ∷ actual) (Saved id entry kept.Regen ∷ expected)
+  falling : (id : NodeId) (entry : ℕ) (place : Place) (wanted found : ℕ) (expected : List Event)
+      (falls : MayFall tree loaded id entry place wanted found)
+      → LegalFront tree loaded (Fell id entry place wanted found ∷ []) (Saved id entry kept.Regen ∷ expected)
+  lapsed_so_far : (id : NodeId) (entry seen found : ℕ) (actual expected : List Event)
+      (gone : seen ≢ found) (rest : LegalFront tree loaded actual expected)
+      → LegalFront tree loaded (Lapsed id entry seen found ∷ Saved id entry kept.Copy ∷ actual) (Saved id entry kept.Refer ∷ expected)
+  lapsing : (id : NodeId) (entry seen found : ℕ) (expected : List Event)
+      (gone : seen ≢ found)
+      → LegalFront tree loaded (Lapsed id entry seen found ∷ []) (Saved id entry kept.Refer ∷ expected)
+
+-- a legal front is exactly what goes on to a legal whole
+abbrev pub LegalFrontsAreFronts : Type 0
+LegalFrontsAreFronts =
+    (tree : Outline) (loaded : Words) → HasPatternWords tree loaded
+    → (actual expected : List Event) → All (SavesAsDeclared tree) expected
+    → LegalFront tree loaded actual expected ↔ ((more : List Event) × Legal tree loaded (actual ++ more) expected)

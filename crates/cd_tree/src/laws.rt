@@ -1,9 +1,9 @@
 //! The laws of the reading, each the contract of a function that does nothing: to call it is to have the law.
 
 ghost use Rattle.cd_tree.specs.Begins.{BeginsFollowFailures, BeginsNumberOn};
-ghost use Rattle.cd_tree.specs.CountLaws.{ReadsOwnCounts, ReadsPointsCounts, ReadsMembersCounts, EachIsInOrder, NumbersAreDistinct, CountsGrowByRepeats, CountsDoNotFall};
-ghost use Rattle.cd_tree.specs.FrontLaws.{DomainsTellTheirOwn, FrontsEndThere, ArrivalsAreFronts, FrontsLead, RecordsBegin, FirstPointIsThere, NextPointIsThere, NextTryIsThere, FrontsStand, MembersLead, WaitingIsQuiet, PassesGroups, StopsAtGroups};
-ghost use Rattle.cd_tree.specs.LegalLaws.{LegalPieces, ReadingsSaveAsDeclared, RecordsSaveAsDeclared, LegalFrontsGoOn, LegalFrontsOfRecords};
+ghost use Rattle.cd_tree.specs.CountLaws.{ReadsOwnCounts, ReadsPointsCounts, ReadsMembersCounts, EachIsInOrder, NumbersAreDistinct, CountsGrowByRepeats, CountsDoNotFall, MemberCountsDoNotFall, MembersStayBelow};
+ghost use Rattle.cd_tree.specs.FrontLaws.{DomainsTellTheirOwn, FrontsEndThere, ArrivalsAreFronts, FrontsLead, RecordsBegin, FirstPointIsThere, NextPointIsThere, NextTryIsThere, FrontsStand, FrontCountsLieBetween, MemberCountsLieBelow, PassedPointsAreQuiet, NoGroupLeakHalts, MembersLead, WaitingIsQuiet, PassesGroups, StopsAtGroups};
+ghost use Rattle.cd_tree.specs.LegalLaws.{LegalPieces, ReadingsSaveAsDeclared, RecordsSaveAsDeclared, LegalFrontsGoOn, LegalFrontsOfRecords, LegalFrontsAreFronts};
 ghost use Rattle.cd_tree.specs.Laws.{RepeatsAreAtMostStrikes, StrikesAreAtMostEntries, RepeatsAreAtMostEntries, CountsAreAtMostOneMoreThanEntries, NestedViewFollows, NoLeakHalts, FoundAtRoots, FoundInPrograms, PathsDiffer, CoveredReach, ReachIsEntries, DisjointByDomains, CoveredByDomains, DetectableByPaths, NeedIsRoots, ParentsComeFirst, PathsGoDown, WordsStay};
 
 /// No more tries are repeated than faults strike, and no more faults strike than the script has entries.
@@ -105,6 +105,15 @@ pub fn numbers_are_distinct()
 pub fn counts_grow_by_repeats()
     ensures most { CountsGrowByRepeats }
     ensures least { CountsDoNotFall }
+    ensures members { MemberCountsDoNotFall }
+{}
+
+/// The counts inside a domain's reading, at its fronts and behind the members of its groups, are not above those after it: a
+/// bound on the counts of the whole reading bounds them all.
+pub fn counts_inside_stay_below()
+    ensures fronts { FrontCountsLieBetween }
+    ensures groups { MemberCountsLieBelow }
+    ensures members { MembersStayBelow }
 {}
 
 /// A front of a domain's reading, with what is left behind it, is the whole reading: so its events are a front of the record.
@@ -136,10 +145,16 @@ pub fn fronts_stand_where_they_are()
     ensures { FrontsStand }
 {}
 
+/// A try that goes on has noted no halting kind: neither where its domain waits for members, nor from what they leak.
+pub fn notes_are_quiet_where_a_try_goes_on()
+    ensures waiting { WaitingIsQuiet }
+    ensures passing { PassedPointsAreQuiet }
+    ensures groups { NoGroupLeakHalts }
+{}
+
 /// A domain waits at a front for the members of a group; their end leaves the point behind, or the end of the try.
 pub fn the_reading_goes_on_behind_members()
     ensures leads { MembersLead }
-    ensures quiet { WaitingIsQuiet }
     ensures done { PassesGroups }
     ensures escalated { StopsAtGroups }
 {}
@@ -160,4 +175,5 @@ pub fn entries_are_saved_as_they_are_declared()
 pub fn legal_fronts_go_on()
     ensures events { LegalFrontsGoOn }
     ensures program { LegalFrontsOfRecords }
+    ensures fronts { LegalFrontsAreFronts }
 {}
