@@ -11,7 +11,8 @@ use Rattle.cd_tree.specs.Reading.{no_begins}
 use Rattle.cd_tree.specs.Record.{case_of, record_of}
 use Rattle.cd_tree.specs.Begins.{HasParent}
 use Rattle.cd_tree.specs.Laws.{OfEach}
-use Rattle.cd_tree.proofs.Numbers.{copies, copies-at_most_one}
+use Rattle.cd_tree.specs.CountLaws.{copies}
+use Rattle.cd_tree.proofs.Numbers.{copies-at_most_one}
 use Rattle.cd_tree.proofs.View.{domain_fits}
 use Rattle.cd_tree.proofs.EachDomain.{from_each, number_there, Behind, behind_view}
 use Rattle.cd_tree.proofs.BeginsParts.{state_behind}

@@ -39,3 +39,17 @@ pub mod BeginsReading
 pub mod BeginsTree
 pub mod BeginsSaid
 pub mod BeginsNumbers
+pub mod OtherParts
+pub mod OtherCounts
+pub mod FrontParts
+pub mod FrontSteps
+pub mod FrontsStand
+pub mod FrontsWait
+mod WorkedFronts
+pub mod EventsTold
+pub mod SavesDeclared
+pub mod LegalParts
+pub mod TellOwn
+pub mod Arrivals
+pub mod ArrivalsAll
+pub mod FrontCounts

@@ -7,8 +7,12 @@ pub mod Meaning
 pub mod Scripts
 pub mod Reading
 pub mod Record
+pub mod Fronts
+pub mod CountLaws
+pub mod FrontLaws
 pub mod Legal
 pub mod Paths
 pub mod Refusals
 pub mod Begins
 pub mod Laws
+pub mod LegalLaws

@@ -1,6 +1,9 @@
 //! The laws of the reading, each the contract of a function that does nothing: to call it is to have the law.
 
 ghost use Rattle.cd_tree.specs.Begins.{BeginsFollowFailures, BeginsNumberOn};
+ghost use Rattle.cd_tree.specs.CountLaws.{ReadsOwnCounts, ReadsPointsCounts, ReadsMembersCounts, EachIsInOrder, NumbersAreDistinct, CountsGrowByRepeats, CountsDoNotFall, MemberCountsDoNotFall, MembersStayBelow};
+ghost use Rattle.cd_tree.specs.FrontLaws.{DomainsTellTheirOwn, FrontsEndThere, ArrivalsAreFronts, FrontsLead, RecordsBegin, FirstPointIsThere, NextPointIsThere, NextTryIsThere, FrontsStand, FrontCountsLieBetween, MemberCountsLieBelow, PassedPointsAreQuiet, NoGroupLeakHalts, MembersLead, WaitingIsQuiet, PassesGroups, StopsAtGroups};
+ghost use Rattle.cd_tree.specs.LegalLaws.{LegalPieces, ReadingsSaveAsDeclared, RecordsSaveAsDeclared, LegalFrontsGoOn, LegalFrontsOfRecords, LegalFrontsAreFronts};
 ghost use Rattle.cd_tree.specs.Laws.{RepeatsAreAtMostStrikes, StrikesAreAtMostEntries, RepeatsAreAtMostEntries, CountsAreAtMostOneMoreThanEntries, NestedViewFollows, NoLeakHalts, FoundAtRoots, FoundInPrograms, PathsDiffer, CoveredReach, ReachIsEntries, DisjointByDomains, CoveredByDomains, DetectableByPaths, NeedIsRoots, ParentsComeFirst, PathsGoDown, WordsStay};
 
 /// No more tries are repeated than faults strike, and no more faults strike than the script has entries.
@@ -76,4 +79,101 @@ pub fn words_stay()
 pub fn begins_follow_failures()
     ensures failures { BeginsFollowFailures }
     ensures numbers { BeginsNumberOn }
+{}
+
+// -- fronts and counts
+
+/// A domain's reading knows no counts but those of the domain and those below it, and leaves the others as they were.
+pub fn readings_know_their_own_counts()
+    ensures domains { ReadsOwnCounts }
+    ensures points { ReadsPointsCounts }
+    ensures members { ReadsMembersCounts }
+{}
+
+/// The members of a group can be read each by itself, from the counts when all were sent.
+pub fn members_are_read_each_by_itself()
+    ensures { EachIsInOrder }
+{}
+
+/// No number of a program's domains stands twice in one of them.
+pub fn numbers_are_distinct()
+    ensures { NumbersAreDistinct }
+{}
+
+/// A domain begins at most once, and once more for each try that was repeated, for each time that its number stands in the
+/// domain that is read; and no count falls.
+pub fn counts_grow_by_repeats()
+    ensures most { CountsGrowByRepeats }
+    ensures least { CountsDoNotFall }
+    ensures members { MemberCountsDoNotFall }
+{}
+
+/// The counts inside a domain's reading, at its fronts and behind the members of its groups, are not above those after it: a
+/// bound on the counts of the whole reading bounds them all.
+pub fn counts_inside_stay_below()
+    ensures fronts { FrontCountsLieBetween }
+    ensures groups { MemberCountsLieBelow }
+    ensures members { MembersStayBelow }
+{}
+
+/// A front of a domain's reading, with what is left behind it, is the whole reading: so its events are a front of the record.
+pub fn the_reading_goes_on_from_each_front()
+    ensures leads { FrontsLead }
+    ensures events { RecordsBegin }
+{}
+
+/// The events in a domain's record are of that domain and of those below it.
+pub fn domains_tell_their_own_events()
+    ensures { DomainsTellTheirOwn }
+{}
+
+/// The arrivals of a domain in its record are its fronts, each of which ends with one.
+pub fn arrivals_are_fronts()
+    ensures ends { FrontsEndThere }
+    ensures arrivals { ArrivalsAreFronts }
+{}
+
+/// The first point is there, the next point where the try comes to it, and the next try where it follows.
+pub fn a_front_is_where_the_reading_comes()
+    ensures first { FirstPointIsThere }
+    ensures points { NextPointIsThere }
+    ensures tries { NextTryIsThere }
+{}
+
+/// Where a front stands: in which try, at which point and with what behind it, and how many tries are to spare.
+pub fn fronts_stand_where_they_are()
+    ensures { FrontsStand }
+{}
+
+/// A try that goes on has noted no halting kind: neither where its domain waits for members, nor from what they leak.
+pub fn notes_are_quiet_where_a_try_goes_on()
+    ensures waiting { WaitingIsQuiet }
+    ensures passing { PassedPointsAreQuiet }
+    ensures groups { NoGroupLeakHalts }
+{}
+
+/// A domain waits at a front for the members of a group; their end leaves the point behind, or the end of the try.
+pub fn the_reading_goes_on_behind_members()
+    ensures leads { MembersLead }
+    ensures done { PassesGroups }
+    ensures escalated { StopsAtGroups }
+{}
+
+/// Legal records go together piece by piece.
+pub fn legal_records_go_together()
+    ensures { LegalPieces }
+{}
+
+/// The record of a program saves the entries of its domains as they are declared.
+pub fn entries_are_saved_as_they_are_declared()
+    ensures domains { ReadingsSaveAsDeclared }
+    ensures program { RecordsSaveAsDeclared }
+{}
+
+/// A record that is legal for a front of a program's record goes on to one that is legal for the whole: a pattern that does
+/// not give the root's words falls at the least place where it does not.
+pub fn legal_fronts_go_on()
+    ensures events { LegalFrontsGoOn }
+    ensures program { LegalFrontsOfRecords }
+    ensures fronts { LegalFrontsAreFronts }
 {}
