@@ -20,6 +20,9 @@ pub mod PathTexts
 pub mod PathEnds
 pub mod PathOnly
 pub mod Reach
+pub mod SameColumns
+pub mod SeesReads
+pub mod ShapesHold
 mod WorkedLegal
 pub mod EachDomain
 pub mod Covers

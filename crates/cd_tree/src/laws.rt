@@ -1,6 +1,7 @@
 //! The laws of the reading, each the contract of a function that does nothing: to call it is to have the law.
 
 ghost use Rattle.cd_tree.specs.Begins.{BeginsFollowFailures, BeginsNumberOn};
+ghost use Rattle.cd_tree.specs.Locality.{ColumnIsLocal, OperationIsLocal, OperationLeavesOthers, OperationKeepsAgreement, MeaningIsLocal, OthersStay, AgreementStays, AgreementInEntries, BodyIsLocal, BodyLeavesOthers, BodyKeepsAgreement, ShapesFitInPrograms};
 ghost use Rattle.cd_tree.specs.Laws.{RepeatsAreAtMostStrikes, StrikesAreAtMostEntries, RepeatsAreAtMostEntries, CountsAreAtMostOneMoreThanEntries, NestedViewFollows, NoLeakHalts, FoundAtRoots, FoundInPrograms, PathsDiffer, CoveredReach, ReachIsEntries, DisjointByDomains, CoveredByDomains, DetectableByPaths, NeedIsRoots, ParentsComeFirst, PathsGoDown, WordsStay};
 
 /// No more tries are repeated than faults strike, and no more faults strike than the script has entries.
@@ -69,6 +70,36 @@ pub fn paths_go_from_parent_to_child()
 /// Computing takes no word away.
 pub fn words_stay()
     ensures { WordsStay }
+{}
+
+/// Each word that an operation writes comes from a few words of its sources, and an operation changes nothing else. So what
+/// agrees on its sources agrees on its destination.
+pub fn an_operation_sees_its_sources_alone()
+    ensures column { ColumnIsLocal }
+    ensures destination { OperationIsLocal }
+    ensures others { OperationLeavesOthers }
+    ensures agreement { OperationKeepsAgreement }
+{}
+
+/// What a domain computes depends on the words that it reads, and it changes no others than those that it writes: so a run
+/// that holds the words of a covered domain's entries, and no more, computes the same.
+pub fn a_domain_sees_what_it_reads_alone()
+    ensures written { MeaningIsLocal }
+    ensures others { OthersStay }
+    ensures agreement { AgreementStays }
+    ensures entries { AgreementInEntries }
+{}
+
+/// The same of a body, as of the items of a domain that are still to come.
+pub fn a_body_sees_what_it_reads_alone()
+    ensures written { BodyIsLocal }
+    ensures others { BodyLeavesOthers }
+    ensures agreement { BodyKeepsAgreement }
+{}
+
+/// Each domain of a program meets what the laws on what domains see ask of shapes.
+pub fn shapes_fit_in_programs()
+    ensures { ShapesFitInPrograms }
 {}
 
 /// Between two begins of a domain its parent began, or its own try failed and it has not ended: a sibling's failure begins
