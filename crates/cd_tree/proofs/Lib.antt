@@ -23,6 +23,9 @@ pub mod Reach
 pub mod SameColumns
 pub mod SeesReads
 pub mod ShapesHold
+pub mod Absorbs
+pub mod FirstFacts
+mod WorkedFirst
 mod WorkedLegal
 pub mod EachDomain
 pub mod Covers

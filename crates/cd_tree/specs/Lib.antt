@@ -5,8 +5,8 @@ pub mod Outlines
 pub mod Parts
 pub mod Meaning
 pub mod Locality
-pub mod FirstItems
 pub mod Absorbing
+pub mod FirstItems
 pub mod Scripts
 pub mod Reading
 pub mod Record
