@@ -1,14 +1,14 @@
 -- The words after a group, place by place, from what its members give.
-use Rattle.std.proofs.Common.{◌≡◌, ◌⊎◌, ◌↔◌, Bool, true, false, ◌&&◌, ◌||◌, cond, List, [], ◌∷◌, Option, refl, ap, sym, subst, ◌∙◌, inl, inr}
+use Rattle.std.proofs.Common.{◌≡◌, ◌↔◌, Bool, true, false, ◌&&◌, ◌||◌, List, [], ◌∷◌, refl, ap, sym, subst, ◌∙◌, inl, inr}
 use Rattle.std.proofs.Math.Path.{fun_ext}
-use Rattle.std.proofs.lemmas.Bool.{or_left, or_right, or_cases, or_parts, and_from, both_ways, cases_Bool, cond-true, cond-false}
+use Rattle.std.proofs.lemmas.Bool.{or_left, or_right, or_cases, or_parts, or_from, both_ways, cases_Bool, cond-true, cond-false}
 use Rattle.cd_base.specs.declared.place.Place.{Place}
 use Rattle.cd_base.specs.Words.{Words, PlaceSet}
 use Rattle.cd_tree.specs.Domains.{Node, Members, no_more, member}
-use Rattle.cd_tree.specs.Meaning.{node_reach, node_reads, node_writes, node_meaning, member_writes, members_meaning, written, clash, DoNotClash, IsApartFrom, MembersApart}
+use Rattle.cd_tree.specs.Meaning.{node_reach, node_reads, node_writes, node_meaning, member_writes, members_meaning, written, DoNotClash, IsApartFrom, MembersApart}
 use Rattle.cd_tree.specs.Locality.{SameWords}
 use Rattle.cd_tree.specs.Absorbing.{IsMember, GiveMeanings, absorbed}
-use Rattle.cd_tree.proofs.SameColumns.{choice_same}
+use Rattle.cd_tree.proofs.SameColumns.{choice_same, first_of_two}
 use Rattle.cd_tree.proofs.SeesReads.{members_leave}
 
 -- words that agree where they are written make the same words
@@ -78,11 +78,7 @@ not_written one other p apart h = (or_parts (node_reads other p) (node_writes ot
 none_writes : (one : Node) (members : Members) (p : Place) → IsApartFrom one members → node_writes one p ≡ true → member_writes members p ≡ false
 none_writes one no_more p apart h = refl
 none_writes one (member first rest) p (here, apart) h =
-    both_false (node_writes first p) (member_writes rest p) (not_written one first p here h) (none_writes one rest p apart h)
-  where
-    both_false : (a b : Bool) → a ≡ false → b ≡ false → (a || b) ≡ false
-    both_false true b e f = absurd (cc)
-    both_false false b e f = f
+    or_from (node_writes first p) (member_writes rest p) (not_written one first p here h) (none_writes one rest p apart h)
 
 pub members_give_their_own : (members : Members) (d : Node) (before after : Words) → MembersApart members → IsMember d members
     → SameWords (node_writes d) (members_meaning members before after) (node_meaning d before)
@@ -112,7 +108,7 @@ given_there (member first rest) before after p h =
           let g : GivenThere rest before now p = given_there rest before now p later in
           record { domain = g.domain; is_member = inr g.is_member; writes = g.writes; word = g.word }
       | inr none ↦
-          let wrote : node_writes first p ≡ true = first_writes (node_writes first p) (member_writes rest p) h none in
+          let wrote : node_writes first p ≡ true = first_of_two (node_writes first p) (member_writes rest p) h none in
           record {
             domain = first;
             is_member = inl refl;
@@ -120,15 +116,11 @@ given_there (member first rest) before after p h =
             word = members_leave rest before now p none ∙ cond-true (node_writes first p) (node_meaning first before p) (after p) wrote;
           }
     ]
-  where
-    first_writes : (a b : Bool) → (a || b) ≡ true → b ≡ false → a ≡ true
-    first_writes true b h f = refl
-    first_writes false b h f = absurd (cc)
 
-pub order_is_nothing : (members others : Members) (before after : Words) → MembersApart members
+pub order_does_not_matter : (members others : Members) (before after : Words) → MembersApart members
     → ((d : Node) → IsMember d members ↔ IsMember d others)
     → members_meaning members before after ≡ members_meaning others before after
-order_is_nothing members others before after apart same =
+order_does_not_matter members others before after apart same =
     fun_ext (λ p.
     elim (cases_Bool (member_writes others p)) [
       | inl wrote ↦

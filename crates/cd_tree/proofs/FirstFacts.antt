@@ -1,17 +1,19 @@
 -- The first items of a body, those behind them, and the words between.
-use Rattle.std.proofs.Common.{◌≡◌, ℕ, zero, suc, ◌-◌, ◌≤◌, min, true, false, ◌||◌, List, [], ◌∷◌, length, take, drop, Option, refl, ap, sym, subst, ◌∙◌, arith, inl, inr}
+use Rattle.std.proofs.Common.{◌≡◌, ℕ, zero, suc, ◌-◌, ◌≤◌, min, false, List, [], ◌∷◌, length, take, drop, Option, Some, IsSome, slice_get, refl, ap, sym, subst, ◌∙◌, arith, inl, inr}
 use Rattle.std.proofs.lemmas.Bool.{or_left, or_right, or_cases}
 use Rattle.cd_base.specs.declared.place.Place.{Place}
 use Rattle.cd_base.specs.Words.{Words, PlaceSet, in_range, in_ranges}
 use Rattle.cd_tree.specs.declared.domain.NodeId.{NodeId}
 use Rattle.cd_tree.specs.declared.domain.Item.{Item}
 use Rattle.cd_tree.specs.declared.domain.Item.TheVariants.{Run, Group}
+use Rattle.cd_tree.specs.declared.operation.Op.{Op}
 use Rattle.cd_tree.specs.Operations.{op_reads, op_writes, op_meaning}
 use Rattle.cd_tree.specs.Domains.{Node, Body, Members, node, stop, run, group, domain_of, body_of, body_by, members_by, body_behind}
 use Rattle.cd_tree.specs.Meaning.{in_entries, node_reads, body_reads, body_writes, body_meaning, member_reads, member_writes, members_meaning, LieIn, IsCovered}
 use Rattle.cd_tree.specs.Locality.{SameWords, in_either, AllShapesFit, BodyShapesFit}
 use Rattle.cd_tree.specs.FirstItems.{first_items, meaning_of_first, item_meaning, body_length, waiting_words, resumed_words, PartOf}
 use Rattle.cd_tree.specs.Absorbing.{GiveMeanings, absorbed}
+use Rattle.cd_tree.proofs.Reach.{body_keeps_words}
 use Rattle.cd_tree.proofs.SameColumns.{operation_keeps_agreement}
 use Rattle.cd_tree.proofs.SeesReads.{body_keeps, body_leaves, members_keep, entries_hold_reads}
 use Rattle.cd_tree.proofs.Absorbs.{absorbing_is_meaning}
@@ -22,13 +24,13 @@ first_then_rest (suc k) stop w = refl
 first_then_rest (suc k) (run op rest) w = first_then_rest k rest (op_meaning op w)
 first_then_rest (suc k) (group members rest) w = first_then_rest k rest (members_meaning members w w)
 
-pub all_are_first : (k : ℕ) (body : Body) (w : Words) → body_length body ≤ k → meaning_of_first k body w ≡ body_meaning body w
-all_are_first zero stop w few = refl
-all_are_first zero (run op rest) w few = absurd (omega arith)
-all_are_first zero (group members rest) w few = absurd (omega arith)
-all_are_first (suc k) stop w few = refl
-all_are_first (suc k) (run op rest) w few = all_are_first k rest (op_meaning op w) (omega arith)
-all_are_first (suc k) (group members rest) w few = all_are_first k rest (members_meaning members w w) (omega arith)
+pub enough_are_all : (k : ℕ) (body : Body) (w : Words) → body_length body ≤ k → meaning_of_first k body w ≡ body_meaning body w
+enough_are_all zero stop w few = refl
+enough_are_all zero (run op rest) w few = absurd (omega arith)
+enough_are_all zero (group members rest) w few = absurd (omega arith)
+enough_are_all (suc k) stop w few = refl
+enough_are_all (suc k) (run op rest) w few = enough_are_all k rest (op_meaning op w) (omega arith)
+enough_are_all (suc k) (group members rest) w few = enough_are_all k rest (members_meaning members w w) (omega arith)
 
 pub one_item_more : (k : ℕ) (body : Body) (w : Words)
     → meaning_of_first (suc k) body w ≡ item_meaning (body_behind k body) (meaning_of_first k body w)
@@ -56,6 +58,33 @@ items_before zero find items = refl
 items_before (suc k) find [] = refl
 items_before (suc k) find (Run op ∷ items) = ap (run op) (items_before k find items)
 items_before (suc k) find (Group ids ∷ items) = ap (group (members_by find ids)) (items_before k find items)
+
+pub behind_is_run : (k : ℕ) (find : NodeId → Option Node) (items : List Item) (op : Op) → slice_get items k ≡ Some (Run op)
+    → body_behind k (body_by find items) ≡ run op (body_behind (suc k) (body_by find items))
+behind_is_run k find [] op is = absurd (cc)
+behind_is_run zero find (item ∷ items) op is =
+    let same : item ≡ Run op = cc in
+    let P : Item → Type 0 = λ i. body_by find (i ∷ items) ≡ run op (body_behind 1 (body_by find (i ∷ items))) in
+    subst P (sym same) refl
+behind_is_run (suc k) find (Run other ∷ items) op is = behind_is_run k find items op is
+behind_is_run (suc k) find (Group ids ∷ items) op is = behind_is_run k find items op is
+
+pub behind_is_group : (k : ℕ) (find : NodeId → Option Node) (items : List Item) (ids : List NodeId) → slice_get items k ≡ Some (Group ids)
+    → body_behind k (body_by find items) ≡ group (members_by find ids) (body_behind (suc k) (body_by find items))
+behind_is_group k find [] ids is = absurd (cc)
+behind_is_group zero find (item ∷ items) ids is =
+    let same : item ≡ Group ids = cc in
+    let P : Item → Type 0 = λ i. body_by find (i ∷ items) ≡ group (members_by find ids) (body_behind 1 (body_by find (i ∷ items))) in
+    subst P (sym same) refl
+behind_is_group (suc k) find (Run op ∷ items) ids is = behind_is_group k find items ids is
+behind_is_group (suc k) find (Group others ∷ items) ids is = behind_is_group k find items ids is
+
+pub behind_is_nothing : (k : ℕ) (find : NodeId → Option Node) (items : List Item) → length items ≤ k → body_behind k (body_by find items) ≡ stop
+behind_is_nothing zero find [] few = refl
+behind_is_nothing zero find (item ∷ items) few = absurd (omega arith)
+behind_is_nothing (suc k) find [] few = refl
+behind_is_nothing (suc k) find (Run op ∷ items) few = behind_is_nothing k find items (omega arith)
+behind_is_nothing (suc k) find (Group ids ∷ items) few = behind_is_nothing k find items (omega arith)
 
 pub length_of_items : (find : NodeId → Option Node) (items : List Item) → body_length (body_by find items) ≡ length items
 length_of_items find [] = refl
@@ -152,6 +181,9 @@ first_are_part (suc k) (group members rest) =
 pub first_leave_others : (k : ℕ) (body : Body) (w : Words) (p : Place) → body_writes (first_items k body) p ≡ false
     → meaning_of_first k body w p ≡ w p
 first_leave_others k body w p outside = body_leaves (first_items k body) w p outside
+
+pub first_keep_words : (k : ℕ) (body : Body) (w : Words) (p : Place) → IsSome (w p) → IsSome (meaning_of_first k body w p)
+first_keep_words k body w p some = body_keeps_words (first_items k body) w p some
 
 pub first_keep_agreement : (k : ℕ) (body : Body) (places : PlaceSet) (v w : Words) → BodyShapesFit body
     → LieIn (body_reads (first_items k body)) places → SameWords places v w

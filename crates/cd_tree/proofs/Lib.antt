@@ -25,6 +25,7 @@ pub mod SeesReads
 pub mod ShapesHold
 pub mod Absorbs
 pub mod FirstFacts
+pub mod OfMembers
 mod WorkedFirst
 mod WorkedLegal
 pub mod EachDomain

@@ -1,6 +1,6 @@
 -- What an operation writes comes from the words of its sources alone.
-use Rattle.std.proofs.Common.{◌≡◌, ℕ, zero, suc, ◌+◌, ◌*◌, ◌-◌, ◌^◌, ◌<◌, ◌≤◌, max, inl, inr, sym, [], Bool, true, false, ◌&&◌, ◌||◌, nat_lt, nat_le, if◌then◌else◌, cond, List, ◌∷◌, Option, Some, unwrap_or, arith, refl, ap, ap₂, ◌∙◌}
-use Rattle.std.proofs.lemmas.Bool.{or_left, or_right, or_cases, ltb-true, cond-false, cases_Bool}
+use Rattle.std.proofs.Common.{◌≡◌, ℕ, zero, suc, ◌+◌, ◌*◌, ◌-◌, ◌^◌, ◌<◌, ◌≤◌, inl, inr, sym, [], Bool, true, false, ◌&&◌, ◌||◌, nat_lt, nat_le, if◌then◌else◌, cond, List, ◌∷◌, Option, Some, unwrap_or, arith, refl, ap, ap₂, ◌∙◌}
+use Rattle.std.proofs.lemmas.Bool.{or_left, or_right, ltb-true, cond-false, cases_Bool}
 use Rattle.cd_base.specs.declared.place.Place.{Place}
 use Rattle.cd_base.specs.declared.place.Range.{Range}
 use Rattle.cd_base.specs.Words.{Words, PlaceSet, word_of, in_range, in_ranges}

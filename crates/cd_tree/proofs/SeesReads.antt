@@ -1,15 +1,11 @@
 -- A meaning sees the words that are read, and changes those that are written: operation by operation, and member by member.
-use Rattle.std.proofs.Common.{◌≡◌, ℕ, Bool, true, false, ◌||◌, cond, Option, refl, ◌∙◌, sym, inl, inr}
+use Rattle.std.proofs.Common.{◌≡◌, Bool, true, false, ◌||◌, refl, ◌∙◌}
 use Rattle.std.proofs.lemmas.Bool.{or_left, or_right, or_parts, cond-false}
 use Rattle.cd_base.specs.declared.place.Place.{Place}
 use Rattle.cd_base.specs.Words.{Words, PlaceSet, in_range, in_ranges}
-use Rattle.cd_tree.specs.declared.domain.NodeId.{NodeId}
-use Rattle.cd_tree.specs.declared.domain.Item.{Item}
-use Rattle.cd_tree.specs.declared.domain.Item.TheVariants.{Run, Group}
-use Rattle.cd_tree.specs.declared.domain.Domain.{Domain}
 use Rattle.cd_tree.specs.Operations.{op_reads, op_writes, op_meaning}
-use Rattle.cd_tree.specs.Domains.{Node, Body, Members, node, stop, run, group, no_more, member, domain_of, body_of, body_by, node_of, ThroughoutBody, ThroughoutMembers}
-use Rattle.cd_tree.specs.Meaning.{in_entries, node_reads, node_writes, node_reach, node_meaning, body_reads, body_writes, body_meaning, member_reads, member_writes, members_meaning, written, LieIn, IsCovered}
+use Rattle.cd_tree.specs.Domains.{Node, Body, Members, node, stop, run, group, no_more, member, domain_of, ThroughoutBody, ThroughoutMembers}
+use Rattle.cd_tree.specs.Meaning.{in_entries, node_reads, node_writes, node_meaning, body_reads, body_writes, body_meaning, member_reads, member_writes, members_meaning, written, LieIn, IsCovered}
 use Rattle.cd_tree.specs.Locality.{SameWords, in_either, ShapesFit, OwnShapesFit, AllShapesFit, BodyShapesFit}
 use Rattle.cd_tree.proofs.SameColumns.{choice_same, first_of_two, operation_keeps_agreement, operation_leaves_others}
 use Rattle.cd_tree.proofs.Reach.{node_within}

@@ -8,8 +8,8 @@ use Rattle.cd_tree.specs.declared.domain.Domain.{Domain}
 use Rattle.cd_tree.specs.declared.document.Region.{Region}
 use Rattle.cd_tree.specs.declared.operation.Op.TheVariants.{Fill, Copy, Add, Scan}
 use Rattle.cd_tree.specs.Operations.{op_meaning}
-use Rattle.cd_tree.specs.Domains.{Node, Body, Members, stop, run, group, members_by, node_of, root_of, body_of, body_behind}
-use Rattle.cd_tree.specs.Meaning.{initial, node_meaning, body_meaning}
+use Rattle.cd_tree.specs.Domains.{Body, Members, stop, run, group, members_by, node_of, root_of, body_of, body_behind}
+use Rattle.cd_tree.specs.Meaning.{initial, node_meaning}
 use Rattle.cd_tree.specs.FirstItems.{first_items, meaning_of_first, body_length, waiting_words, resumed_words}
 use Rattle.cd_tree.specs.Absorbing.{absorbed}
 use Rattle.cd_tree.proofs.WorkedForms.{number, root, inner, part, copied, words_of}

@@ -53,8 +53,8 @@ GroupWritesByMembers =
     (members : Members) (p : Place) → (member_writes members p ≡ true) ↔ ((d : Node) × IsMember d members × (node_writes d p ≡ true))
 
 -- groups of the same members, which are apart, have the same meaning, whatever their order
-abbrev pub OrderIsNothing : Type 0
-OrderIsNothing =
+abbrev pub OrderDoesNotMatter : Type 0
+OrderDoesNotMatter =
     (members others : Members) (before after : Words) → MembersApart members → ((d : Node) → IsMember d members ↔ IsMember d others)
     → members_meaning members before after ≡ members_meaning others before after
 

@@ -1,14 +1,16 @@
 -- The first items of a body and the words after them: what a domain has where it waits for a group, and as it goes on.
-use Rattle.std.specs.Prelude.{◌≡◌, ℕ, zero, suc, ◌-◌, ◌≤◌, min, true, false, List, length, take, drop, Option}
+use Rattle.std.specs.Prelude.{◌≡◌, ◌↔◌, ℕ, zero, suc, ◌-◌, ◌≤◌, min, false, List, length, take, drop, Option, Some, slice_get, IsSome}
 use Rattle.cd_base.specs.declared.place.Place.{Place}
 use Rattle.cd_base.specs.Words.{Words, PlaceSet}
 use Rattle.cd_tree.specs.declared.domain.NodeId.{NodeId}
 use Rattle.cd_tree.specs.declared.domain.Item.{Item}
+use Rattle.cd_tree.specs.declared.domain.Item.TheVariants.{Run, Group}
+use Rattle.cd_tree.specs.declared.operation.Op.{Op}
 use Rattle.cd_tree.specs.Operations.{op_meaning}
-use Rattle.cd_tree.specs.Domains.{Node, Body, Members, stop, run, group, domain_of, body_of, body_by, body_behind}
-use Rattle.cd_tree.specs.Meaning.{in_entries, node_reads, body_reads, body_writes, body_meaning, members_meaning, GroupsApart, IsCovered, CoversBody, LieIn}
+use Rattle.cd_tree.specs.Domains.{Node, Body, Members, stop, run, group, domain_of, body_of, body_by, members_by, body_behind}
+use Rattle.cd_tree.specs.Meaning.{in_entries, node_reads, node_writes, node_reach, body_reads, body_writes, body_meaning, members_meaning, GroupsApart, IsDisjoint, IsCovered, CoversBody, LieIn}
 use Rattle.cd_tree.specs.Locality.{SameWords, in_either, AllShapesFit, BodyShapesFit}
-use Rattle.cd_tree.specs.Absorbing.{GiveMeanings, absorbed}
+use Rattle.cd_tree.specs.Absorbing.{IsMember, GiveMeanings, absorbed}
 
 -- the first k items of a body
 abbrev pub first_items : ℕ → Body → Body
@@ -41,13 +43,18 @@ waiting_words d k begun = meaning_of_first k (body_of d) begun
 abbrev pub resumed_words : Node → ℕ → Words → Words
 resumed_words d k begun = meaning_of_first (suc k) (body_of d) begun
 
+-- a member of the group that is item k of a domain
+abbrev pub IsMemberAt : Node → ℕ → Node → Type 0
+IsMemberAt d k one =
+    (members : Members) × (rest : Body) × (body_behind k (body_of d) ≡ group members rest) × IsMember one members
+
 -- the first items, and then those behind them, are all
 abbrev pub FirstThenRest : Type 0
 FirstThenRest = (k : ℕ) (body : Body) (w : Words) → body_meaning (body_behind k body) (meaning_of_first k body w) ≡ body_meaning body w
 
 -- as many items as there are, are all
-abbrev pub AllAreFirst : Type 0
-AllAreFirst = (k : ℕ) (body : Body) (w : Words) → body_length body ≤ k → meaning_of_first k body w ≡ body_meaning body w
+abbrev pub EnoughAreAll : Type 0
+EnoughAreAll = (k : ℕ) (body : Body) (w : Words) → body_length body ≤ k → meaning_of_first k body w ≡ body_meaning body w
 
 -- with one item more, that item's meaning comes last
 abbrev pub OneItemMore : Type 0
@@ -66,6 +73,27 @@ ItemsBehind =
 abbrev pub ItemsBefore : Type 0
 ItemsBefore =
     (k : ℕ) (find : NodeId → Option Node) (items : List Item) → first_items k (body_by find items) ≡ body_by find (take k items)
+
+-- item k of the list, or its end, is what stands behind the first k items
+abbrev pub BehindIsRun : Type 0
+BehindIsRun =
+    (k : ℕ) (find : NodeId → Option Node) (items : List Item) (op : Op) → slice_get items k ≡ Some (Run op)
+    → body_behind k (body_by find items) ≡ run op (body_behind (suc k) (body_by find items))
+
+abbrev pub BehindIsGroup : Type 0
+BehindIsGroup =
+    (k : ℕ) (find : NodeId → Option Node) (items : List Item) (ids : List NodeId) → slice_get items k ≡ Some (Group ids)
+    → body_behind k (body_by find items) ≡ group (members_by find ids) (body_behind (suc k) (body_by find items))
+
+abbrev pub BehindIsNothing : Type 0
+BehindIsNothing =
+    (k : ℕ) (find : NodeId → Option Node) (items : List Item) → length items ≤ k → body_behind k (body_by find items) ≡ stop
+
+-- the members of a group are the domains that are found by the numbers in its list
+abbrev pub MembersAreNamed : Type 0
+MembersAreNamed =
+    (find : NodeId → Option Node) (ids : List NodeId) (d : Node)
+    → IsMember d (members_by find ids) ↔ ((j : ℕ) × (id : NodeId) × (slice_get ids j ≡ Some id) × (find id ≡ Some d))
 
 abbrev pub LengthOfItems : Type 0
 LengthOfItems = (find : NodeId → Option Node) (items : List Item) → body_length (body_by find items) ≡ length items
@@ -95,6 +123,10 @@ BehindArePart = (k : ℕ) (body : Body) → PartOf (body_behind k body) body
 abbrev pub FirstLeaveOthers : Type 0
 FirstLeaveOthers =
     (k : ℕ) (body : Body) (w : Words) (p : Place) → body_writes (first_items k body) p ≡ false → meaning_of_first k body w p ≡ w p
+
+-- the first items take no word away
+abbrev pub FirstKeepWords : Type 0
+FirstKeepWords = (k : ℕ) (body : Body) (w : Words) (p : Place) → IsSome (w p) → IsSome (meaning_of_first k body w p)
 
 -- words that agree in places that hold what the first items read agree, after them, there and where they write
 abbrev pub FirstKeepAgreement : Type 0
@@ -129,3 +161,21 @@ MembersResumeIn =
     → AllShapesFit d → LieIn (node_reads d) places → body_behind k (body_of d) ≡ group members rest
     → SameWords places now (waiting_words d k begun) → GiveMeanings members now given
     → SameWords places (absorbed members given now) (resumed_words d k begun)
+
+-- a member of a domain reads and writes no more than the domain does
+abbrev pub MembersTouchLess : Type 0
+MembersTouchLess =
+    (d one : Node) (k : ℕ) → IsMemberAt d k one → LieIn (node_reads one) (node_reads d) × LieIn (node_writes one) (node_writes d)
+
+-- a member of a covered domain is covered, and reaches places of the domain's entries alone
+abbrev pub MembersAreCovered : Type 0
+MembersAreCovered =
+    (d one : Node) (k : ℕ) → IsMemberAt d k one → IsCovered d
+    → IsCovered one × LieIn (node_reach one) (in_entries (domain_of d).entries)
+
+-- shapes are right in a member, too, and siblings below it are apart
+abbrev pub MembersShapesFit : Type 0
+MembersShapesFit = (d one : Node) (k : ℕ) → IsMemberAt d k one → AllShapesFit d → AllShapesFit one
+
+abbrev pub MembersAreDisjoint : Type 0
+MembersAreDisjoint = (d one : Node) (k : ℕ) → IsMemberAt d k one → IsDisjoint d → IsDisjoint one

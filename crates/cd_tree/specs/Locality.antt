@@ -7,7 +7,7 @@ use Rattle.cd_tree.specs.declared.operation.Op.{Op}
 use Rattle.cd_tree.specs.declared.operation.Op.TheVariants.{Fill, Copy, Add, Sub, Mul, Axpy, Scan, Sum, Dot, Max, Stencil, Spmv}
 use Rattle.cd_tree.specs.Operations.{op_reads, op_writes, op_meaning, column, length_of, nth_word, FitsShape}
 use Rattle.cd_tree.specs.Domains.{Node, Body, stop, run, group, domain_of, body_of, root_of, Throughout, ThroughoutBody}
-use Rattle.cd_tree.specs.Meaning.{in_entries, node_reads, node_writes, node_meaning, body_reads, body_writes, body_meaning, IsCovered, LieIn}
+use Rattle.cd_tree.specs.Meaning.{in_entries, node_reads, node_writes, node_meaning, body_reads, body_writes, body_meaning, IsCovered, IsDisjoint, LieIn}
 use Rattle.cd_tree.specs.Outlines.{Outline, IsTree}
 use Rattle.cd_tree.specs.Laws.{OfEach}
 
@@ -84,6 +84,13 @@ BodyShapesFit body = ShapesFit body × ThroughoutBody OwnShapesFit body
 -- in a program all shapes are right
 abbrev pub ShapesFitInPrograms : Type 0
 ShapesFitInPrograms = (tree : Outline) → IsTree tree → OfEach tree AllShapesFit
+
+-- what is covered or disjoint as a whole is so in each domain
+abbrev pub CoveredInPrograms : Type 0
+CoveredInPrograms = (tree : Outline) → IsTree tree → IsCovered (root_of tree.domains) → OfEach tree IsCovered
+
+abbrev pub DisjointInPrograms : Type 0
+DisjointInPrograms = (tree : Outline) → IsTree tree → IsDisjoint (root_of tree.domains) → OfEach tree IsDisjoint
 
 -- what a domain writes comes from what it reads alone
 abbrev pub MeaningIsLocal : Type 0

@@ -1,9 +1,9 @@
 //! The laws of the reading, each the contract of a function that does nothing: to call it is to have the law.
 
 ghost use Rattle.cd_tree.specs.Begins.{BeginsFollowFailures, BeginsNumberOn};
-ghost use Rattle.cd_tree.specs.Locality.{ColumnIsLocal, OperationIsLocal, OperationLeavesOthers, OperationKeepsAgreement, MeaningIsLocal, OthersStay, AgreementStays, AgreementInEntries, BodyIsLocal, BodyLeavesOthers, BodyKeepsAgreement, ShapesFitInPrograms};
-ghost use Rattle.cd_tree.specs.FirstItems.{FirstThenRest, AllAreFirst, OneItemMore, OneItemLess, ItemsBehind, ItemsBefore, LengthOfItems, LengthBehind, LengthOfFirst, FirstArePart, BehindArePart, FirstLeaveOthers, FirstKeepAgreement, FirstAgreeInEntries, NextItemAgrees, MembersResume, MembersResumeIn};
-ghost use Rattle.cd_tree.specs.Absorbing.{AbsorbingIsMeaning, AbsorbingOne, MembersGiveTheirOwn, GroupLeavesOthers, GroupWritesByMembers, OrderIsNothing, ApartIsUnseen};
+ghost use Rattle.cd_tree.specs.Locality.{ColumnIsLocal, OperationIsLocal, OperationLeavesOthers, OperationKeepsAgreement, MeaningIsLocal, OthersStay, AgreementStays, AgreementInEntries, BodyIsLocal, BodyLeavesOthers, BodyKeepsAgreement, ShapesFitInPrograms, CoveredInPrograms, DisjointInPrograms};
+ghost use Rattle.cd_tree.specs.FirstItems.{FirstThenRest, EnoughAreAll, OneItemMore, OneItemLess, ItemsBehind, ItemsBefore, BehindIsRun, BehindIsGroup, BehindIsNothing, MembersAreNamed, LengthOfItems, LengthBehind, LengthOfFirst, FirstArePart, BehindArePart, FirstLeaveOthers, FirstKeepWords, FirstKeepAgreement, FirstAgreeInEntries, NextItemAgrees, MembersResume, MembersResumeIn, MembersTouchLess, MembersAreCovered, MembersShapesFit, MembersAreDisjoint};
+ghost use Rattle.cd_tree.specs.Absorbing.{AbsorbingIsMeaning, AbsorbingOne, MembersGiveTheirOwn, GroupLeavesOthers, GroupWritesByMembers, OrderDoesNotMatter, ApartIsUnseen};
 ghost use Rattle.cd_tree.specs.Laws.{RepeatsAreAtMostStrikes, StrikesAreAtMostEntries, RepeatsAreAtMostEntries, CountsAreAtMostOneMoreThanEntries, NestedViewFollows, NoLeakHalts, FoundAtRoots, FoundInPrograms, PathsDiffer, CoveredReach, ReachIsEntries, DisjointByDomains, CoveredByDomains, DetectableByPaths, NeedIsRoots, ParentsComeFirst, PathsGoDown, WordsStay};
 
 /// No more tries are repeated than faults strike, and no more faults strike than the script has entries.
@@ -99,16 +99,19 @@ pub fn a_body_sees_what_it_reads_alone()
     ensures agreement { BodyKeepsAgreement }
 {}
 
-/// Each domain of a program meets what the laws on what domains see ask of shapes.
-pub fn shapes_fit_in_programs()
-    ensures { ShapesFitInPrograms }
+/// Each domain of a program meets what the laws on what domains see ask of it: its shapes are right, and it is covered and
+/// disjoint where the program is.
+pub fn each_domain_is_as_its_program()
+    ensures shapes { ShapesFitInPrograms }
+    ensures covered { CoveredInPrograms }
+    ensures disjoint { DisjointInPrograms }
 {}
 
 /// Behind its first items a body goes on with the rest: so a domain that waits for a group, or goes on behind one, has the
 /// words of the items before.
 pub fn first_items_and_the_rest_are_all()
     ensures rest { FirstThenRest }
-    ensures all { AllAreFirst }
+    ensures all { EnoughAreAll }
     ensures more { OneItemMore }
     ensures less { OneItemLess }
 {}
@@ -117,6 +120,10 @@ pub fn first_items_and_the_rest_are_all()
 pub fn a_body_follows_its_items()
     ensures behind { ItemsBehind }
     ensures before { ItemsBefore }
+    ensures run { BehindIsRun }
+    ensures group { BehindIsGroup }
+    ensures nothing { BehindIsNothing }
+    ensures members { MembersAreNamed }
     ensures length { LengthOfItems }
     ensures left { LengthBehind }
     ensures first { LengthOfFirst }
@@ -131,9 +138,18 @@ pub fn items_are_part_of_their_body()
 /// The first items see what they read and change what they write, and no other word.
 pub fn first_items_see_what_they_read_alone()
     ensures others { FirstLeaveOthers }
+    ensures words { FirstKeepWords }
     ensures agreement { FirstKeepAgreement }
     ensures entries { FirstAgreeInEntries }
     ensures next { NextItemAgrees }
+{}
+
+/// What the laws on what domains see ask of a domain holds of the members of its groups, too.
+pub fn members_are_as_their_domain()
+    ensures touched { MembersTouchLess }
+    ensures covered { MembersAreCovered }
+    ensures shapes { MembersShapesFit }
+    ensures disjoint { MembersAreDisjoint }
 {}
 
 /// A domain that waits for a group goes on with what the group's members have written, also where only some places' words
@@ -154,7 +170,7 @@ pub fn absorbing_members_is_their_meaning()
 /// Where members are apart, none sees nor overwrites what another has written: their order does not matter.
 pub fn apart_members_come_in_any_order()
     ensures own { MembersGiveTheirOwn }
-    ensures order { OrderIsNothing }
+    ensures order { OrderDoesNotMatter }
     ensures unseen { ApartIsUnseen }
 {}
 
