@@ -1,7 +1,6 @@
 -- What holds of a domain holds of the members of its groups.
 use Rattle.std.proofs.Common.{◌≡◌, ◌⊎◌, ◌↔◌, ℕ, zero, suc, true, List, [], ◌∷◌, Option, None, Some, slice_get, refl, ap, subst, sym, inl, inr}
 use Rattle.std.proofs.lemmas.Bool.{or_left, or_right}
-use Rattle.cd_base.specs.declared.place.Place.{Place}
 use Rattle.cd_base.specs.Words.{PlaceSet}
 use Rattle.cd_tree.specs.declared.domain.NodeId.{NodeId}
 use Rattle.cd_tree.specs.Domains.{Node, Body, Members, node, stop, run, group, no_more, member, domain_of, body_of, put_first, members_by, body_behind, Throughout, ThroughoutBody, ThroughoutMembers}
