@@ -41,6 +41,16 @@ one_item_more (suc k) stop w = refl
 one_item_more (suc k) (run op rest) w = one_item_more k rest (op_meaning op w)
 one_item_more (suc k) (group members rest) w = one_item_more k rest (members_meaning members w w)
 
+pub run_comes_next : (k : ℕ) (body : Body) (op : Op) (rest : Body) (w : Words) → body_behind k body ≡ run op rest
+    → op_meaning op (meaning_of_first k body w) ≡ meaning_of_first (suc k) body w
+run_comes_next k body op rest w is =
+    ap (λ (left : Body). item_meaning left (meaning_of_first k body w)) (sym is) ∙ sym (one_item_more k body w)
+
+pub group_comes_next : (k : ℕ) (body : Body) (members : Members) (rest : Body) (w : Words) → body_behind k body ≡ group members rest
+    → members_meaning members (meaning_of_first k body w) (meaning_of_first k body w) ≡ meaning_of_first (suc k) body w
+group_comes_next k body members rest w is =
+    ap (λ (left : Body). item_meaning left (meaning_of_first k body w)) (sym is) ∙ sym (one_item_more k body w)
+
 pub one_item_less : (k : ℕ) (body : Body) → body_behind (suc k) body ≡ body_behind 1 (body_behind k body)
 one_item_less zero body = refl
 one_item_less (suc k) stop = refl
@@ -233,8 +243,7 @@ pub members_resume : (d : Node) (k : ℕ) (members : Members) (rest : Body) (beg
     → absorbed members given (waiting_words d k begun) ≡ resumed_words d k begun
 members_resume d k members rest begun given is give =
     absorbing_is_meaning members (waiting_words d k begun) (waiting_words d k begun) given give
-    ∙ ap (λ (left : Body). item_meaning left (waiting_words d k begun)) (sym is)
-    ∙ sym (one_item_more k (body_of d) begun)
+    ∙ group_comes_next k (body_of d) members rest begun is
 
 pub members_resume_in : (d : Node) (k : ℕ) (members : Members) (rest : Body) (places : PlaceSet) (begun now : Words) (given : List Words)
     → AllShapesFit d → LieIn (node_reads d) places → body_behind k (body_of d) ≡ group members rest

@@ -61,6 +61,17 @@ abbrev pub OneItemMore : Type 0
 OneItemMore =
     (k : ℕ) (body : Body) (w : Words) → meaning_of_first (suc k) body w ≡ item_meaning (body_behind k body) (meaning_of_first k body w)
 
+-- where the next item is an operation, it has its meaning; where it is a group, its members have theirs
+abbrev pub RunComesNext : Type 0
+RunComesNext =
+    (k : ℕ) (body : Body) (op : Op) (rest : Body) (w : Words) → body_behind k body ≡ run op rest
+    → op_meaning op (meaning_of_first k body w) ≡ meaning_of_first (suc k) body w
+
+abbrev pub GroupComesNext : Type 0
+GroupComesNext =
+    (k : ℕ) (body : Body) (members : Members) (rest : Body) (w : Words) → body_behind k body ≡ group members rest
+    → members_meaning members (meaning_of_first k body w) (meaning_of_first k body w) ≡ meaning_of_first (suc k) body w
+
 -- behind one item more is what stands behind the next item
 abbrev pub OneItemLess : Type 0
 OneItemLess = (k : ℕ) (body : Body) → body_behind (suc k) body ≡ body_behind 1 (body_behind k body)

@@ -2,7 +2,7 @@
 
 ghost use Rattle.cd_tree.specs.Begins.{BeginsFollowFailures, BeginsNumberOn};
 ghost use Rattle.cd_tree.specs.Locality.{ColumnIsLocal, OperationIsLocal, OperationLeavesOthers, OperationKeepsAgreement, MeaningIsLocal, OthersStay, AgreementStays, AgreementInEntries, BodyIsLocal, BodyLeavesOthers, BodyKeepsAgreement, ShapesFitInPrograms, CoveredInPrograms, DisjointInPrograms};
-ghost use Rattle.cd_tree.specs.FirstItems.{FirstThenRest, EnoughAreAll, OneItemMore, OneItemLess, ItemsBehind, ItemsBefore, BehindIsRun, BehindIsGroup, BehindIsNothing, MembersAreNamed, LengthOfItems, LengthBehind, LengthOfFirst, FirstArePart, BehindArePart, FirstLeaveOthers, FirstKeepWords, FirstKeepAgreement, FirstAgreeInEntries, NextItemAgrees, MembersResume, MembersResumeIn, MembersTouchLess, MembersAreCovered, MembersShapesFit, MembersAreDisjoint};
+ghost use Rattle.cd_tree.specs.FirstItems.{FirstThenRest, EnoughAreAll, OneItemMore, RunComesNext, GroupComesNext, OneItemLess, ItemsBehind, ItemsBefore, BehindIsRun, BehindIsGroup, BehindIsNothing, MembersAreNamed, LengthOfItems, LengthBehind, LengthOfFirst, FirstArePart, BehindArePart, FirstLeaveOthers, FirstKeepWords, FirstKeepAgreement, FirstAgreeInEntries, NextItemAgrees, MembersResume, MembersResumeIn, MembersTouchLess, MembersAreCovered, MembersShapesFit, MembersAreDisjoint};
 ghost use Rattle.cd_tree.specs.Absorbing.{AbsorbingIsMeaning, AbsorbingOne, MembersGiveTheirOwn, GroupLeavesOthers, GroupWritesByMembers, OrderDoesNotMatter, ApartIsUnseen};
 ghost use Rattle.cd_tree.specs.Laws.{RepeatsAreAtMostStrikes, StrikesAreAtMostEntries, RepeatsAreAtMostEntries, CountsAreAtMostOneMoreThanEntries, NestedViewFollows, NoLeakHalts, FoundAtRoots, FoundInPrograms, PathsDiffer, CoveredReach, ReachIsEntries, DisjointByDomains, CoveredByDomains, DetectableByPaths, NeedIsRoots, ParentsComeFirst, PathsGoDown, WordsStay};
 
@@ -113,6 +113,8 @@ pub fn first_items_and_the_rest_are_all()
     ensures rest { FirstThenRest }
     ensures all { EnoughAreAll }
     ensures more { OneItemMore }
+    ensures run { RunComesNext }
+    ensures group { GroupComesNext }
     ensures less { OneItemLess }
 {}
 
