@@ -7,6 +7,7 @@ use Rattle.cd_base.specs.Words.{Words, in_range, in_ranges, word_of}
 use Rattle.cd_tree.specs.declared.operation.Op.{Op}
 use Rattle.cd_tree.specs.declared.operation.Op.TheVariants.{Fill, Scan}
 use Rattle.cd_tree.specs.Operations.{column, op_writes, length_of, nth_word, total, FitsShape, IsInStep}
+use Rattle.cd_tree.specs.Locality.{ColumnIsLocal}
 use Rattle.cd_field.specs.Machine.{Machine, IsPresent, ArePresent, wrote}
 use Rattle.cd_kernel.specs.Computing.{nth_place, IsHere, IsDirect}
 use Rattle.cd_kernel.proofs.Places.{by_test, or_left, or_right}
@@ -51,15 +52,15 @@ word_written m was later op n word e value wrote_it =
     ∙ ap (λ (w : Words). record was { words = w }) (next_written op was.words n)
 
 -- one turn of an operation whose words come from words that are still to be written
-pub column_written : (m was later : Machine) (op : Op) (d : Range) (n word : ℕ)
+pub column_written : ColumnIsLocal → (m was later : Machine) (op : Op) (d : Range) (n word : ℕ)
     → m ≡ record was { words = words_to op was.words n } → d ≡ op_writes op
     → IsDirect op → FitsShape op → n < length_of d
     → word ≡ column op m.words n → later ≡ wrote m (nth_place d n) word
     → later ≡ record was { words = words_to op was.words (n + 1) }
-column_written m was later op d n word e at_d direct shape short value wrote_it =
+column_written law m was later op d n word e at_d direct shape short value wrote_it =
     let P : Range → Type 0 = λ r. n < length_of r in
     word_written m was later op n word e
-    (value ∙ ap (λ (v : Machine). column op v.words n) e ∙ column_stays op was.words n direct shape (subst P at_d short))
+    (value ∙ ap (λ (v : Machine). column op v.words n) e ∙ column_stays law op was.words n direct shape (subst P at_d short))
     (wrote_it ∙ ap (λ (r : Range). wrote m (nth_place r n) word) at_d)
 
 -- one turn of a `fill`

@@ -8,7 +8,7 @@ use crate::columns::column_word;
 use crate::words::{read_nth, write_nth};
 use cd_base::Range;
 use cd_field::Field;
-use cd_tree::{Op, writes};
+use cd_tree::{Op, laws, writes};
 
 /// Runs an operation. Record, notes, lost places and all words outside the destination stay. It takes no memory.
 pub fn apply<F: Field>(op: &Op, field: &mut F)
@@ -43,6 +43,7 @@ fn write_columns<F: Field>(op: &Op, field: &mut F)
     requires present { ArePresent (F.state field.old) (op_writes op.now ∷ op_reads op.now) }
     ensures { F.state field.new ≡ computed (F.state field.old) op.now }
 {
+    laws::an_operation_sees_its_sources_alone();
     let d = writes(op);
     for i in 0..d.high - d.low {
         let word = column_word(op, i, field);

@@ -24,7 +24,7 @@ within r p is =
       high = ltb-true p.index r.high inner.1;
     }
 
-has_place : (r : Range) (p : Place) → r.region ≡ p.region → r.low ≤ p.index → p.index < r.high → in_range r p ≡ true
+pub has_place : (r : Range) (p : Place) → r.region ≡ p.region → r.low ≤ p.index → p.index < r.high → in_range r p ≡ true
 has_place r p region low high =
     and_from (r.region == p.region) (nat_le r.low p.index && nat_lt p.index r.high) (eq-eqb r.region p.region region)
     (and_from (nat_le r.low p.index) (nat_lt p.index r.high) (le-leb r.low p.index low) (lt-ltb p.index r.high high))

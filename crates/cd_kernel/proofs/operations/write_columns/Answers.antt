@@ -13,7 +13,8 @@ column_word-word-requires-clause-here g c κs within =
 
 pub loop-i-preserved : goal.loop-i-preserved
 loop-i-preserved g c =
-    column_written (g.F.Field.state c.loop-i.field) (g.F.Field.state c.args.field.now) (g.F.Field.state c.write_nth.new.field)
+    column_written c.an_operation_sees_its_sources_alone.ensures.column
+    (g.F.Field.state c.loop-i.field) (g.F.Field.state c.args.field.now) (g.F.Field.state c.write_nth.new.field)
     c.args.op.now c.writes-d.result c.loop-i.i c.column_word-word.result
     c.loop-i.invariant c.writes-d.ensures c.requires.direct c.requires.shape c.loop-i-test.true
     c.column_word-word.ensures c.write_nth.ensures
