@@ -6,6 +6,7 @@ pub mod RepeatsReading
 pub mod Numbers
 pub mod CountsParts
 pub mod CountsReading
+pub mod CountsSmall
 mod WorkedGroups
 mod WorkedHalts
 mod WorkedWords

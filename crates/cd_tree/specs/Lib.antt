@@ -15,3 +15,4 @@ pub mod Laws
 pub mod Slices
 pub mod Groups
 pub mod SliceLaws
+pub mod AcceptedLaws

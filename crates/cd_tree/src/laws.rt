@@ -1,5 +1,6 @@
 //! The laws of the reading, each the contract of a function that does nothing: to call it is to have the law.
 
+ghost use Rattle.cd_tree.specs.AcceptedLaws.{CountsAreSmall};
 ghost use Rattle.cd_tree.specs.Begins.{BeginsFollowFailures, BeginsNumberOn};
 ghost use Rattle.cd_tree.specs.Laws.{RepeatsAreAtMostStrikes, StrikesAreAtMostEntries, RepeatsAreAtMostEntries, CountsAreAtMostOneMoreThanEntries, NestedViewFollows, NoLeakHalts, FoundAtRoots, FoundInPrograms, PathsDiffer, CoveredReach, ReachIsEntries, DisjointByDomains, CoveredByDomains, DetectableByPaths, NeedIsRoots, ParentsComeFirst, PathsGoDown, WordsStay};
 ghost use Rattle.cd_tree.specs.SliceLaws.{SubtreesAreSlices, SlicesHaveTheirNumbers, MembersAreSlices, ChildrenFillSlices, SlicesEndWithin, ChildrenStand, ChildrenStandOnce, MembersAreChildren};
@@ -65,6 +66,11 @@ pub fn the_root_needs_the_most()
 pub fn paths_go_from_parent_to_child()
     ensures parents { ParentsComeFirst }
     ensures paths { PathsGoDown }
+{}
+
+/// Under an accepted script no domain of a program begins more than 2^32 times.
+pub fn accepted_scripts_keep_counts_small()
+    ensures { CountsAreSmall }
 {}
 
 /// The numbers of a domain and of those below it are consecutive: a subtree is a slice of the list of domains.
