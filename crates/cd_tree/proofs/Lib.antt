@@ -1,5 +1,6 @@
 mod WorkedForms
 mod Worked
+pub mod KindLemmas
 pub mod Potential
 pub mod RepeatsParts
 pub mod RepeatsReading

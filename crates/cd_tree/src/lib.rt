@@ -20,7 +20,7 @@ pub use document::{Document, Fault, RawFault, RawScript, Region, Regions, Script
 pub use domain::{Domain, Entry, How, Item, NodeId};
 pub use event::{Begins, Cause, Event, Kept};
 pub use groups::GroupPlace;
-pub use kinds::{Kind, KindName, Kinds};
+pub use kinds::{Kind, KindName, Kinds, halting};
 pub use operation::{Op, fits, is_full, reads, writes};
 pub use path::{find, path_text};
 pub use refusal::{Refusal, Refuse, Which};
