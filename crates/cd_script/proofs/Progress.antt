@@ -1,5 +1,5 @@
 -- The faults of a script one after another: what has been accepted so far, and what the rest decides.
-use Rattle.std.proofs.Common.{◌≡◌, ℕ, suc, ◌+◌, ◌<◌, ◌≤◌, List, [], ◌∷◌, ◌++◌, length, get_or, take, drop, Option, None, Some, Ok, All, refl, ap, sym, ◌∙◌, subst, arith, add-one, inr}
+use Rattle.std.proofs.Common.{◌≡◌, ℕ, suc, ◌+◌, ◌^◌, ◌<◌, ◌≤◌, List, [], ◌∷◌, ◌++◌, length, get_or, take, drop, Option, None, Some, Ok, All, refl, ap, sym, ◌∙◌, subst, arith, add-one, inr}
 use Rattle.std.proofs.lemmas.List.{drop_more, take_more, drop_all, take_all, length-append}
 use Rattle.std.proofs.lemmas.List.Elements.{All-nil, All-cons, All-append}
 use Rattle.cd_tree.specs.declared.domain.Domain.{Domain}
@@ -68,11 +68,12 @@ one_more tree all n at script raw fault are below number is answers =
 
 -- all have been accepted
 pub all_accepted : DetectableByPaths → (tree : Outline) → IsTree tree → (all : List RawFault) (n : ℕ) (script : List Fault)
-    → AreAccepted tree all n script → length all ≤ n → AcceptAnswers tree all (Ok script)
-all_accepted detectable tree is all n script are whole = (
+    → AreAccepted tree all n script → length all ≤ n → length all < 2 ^ 32 → AcceptAnswers tree all (Ok script)
+all_accepted detectable tree is all n script are whole few = (
   are.left None (subst (λ (rest : List RawFault). Decides tree (suc n) rest None) (sym (drop_all n all whole)) refl),
   subst (λ (raws : List RawFault). AreFoundAs tree.domains raws script) (take_all n all whole) are.found,
   record {
+    few = omega (arith, are.size, are.within);
     strikes = are.strikes;
     found = (detectable tree script is).0 (λ k d below within. are.declared k d below);
   },

@@ -1,11 +1,13 @@
 mod WorkedForms
 mod Worked
+pub mod KindLemmas
 pub mod Potential
 pub mod RepeatsParts
 pub mod RepeatsReading
 pub mod Numbers
 pub mod CountsParts
 pub mod CountsReading
+pub mod CountsSmall
 mod WorkedGroups
 mod WorkedHalts
 mod WorkedWords
@@ -60,3 +62,9 @@ pub mod TellOwn
 pub mod Arrivals
 pub mod ArrivalsAll
 pub mod FrontCounts
+pub mod Slices
+pub mod Filled
+pub mod Named
+pub mod LastChild
+pub mod Places
+mod WorkedSlices

@@ -194,6 +194,7 @@ members_found = (
 pair_accepts : IsAccepted pair faults
 pair_accepts =
     record {
+      few = omega arith;
       strikes =
           All-cons (CanStrike pair) flip (node ∷ []) (omega arith, refl)
           (All-cons (CanStrike pair) node [] (omega arith, refl) (All-nil (CanStrike pair)));

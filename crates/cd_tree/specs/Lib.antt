@@ -19,3 +19,7 @@ pub mod Refusals
 pub mod Begins
 pub mod Laws
 pub mod LegalLaws
+pub mod Slices
+pub mod Groups
+pub mod SliceLaws
+pub mod AcceptedLaws

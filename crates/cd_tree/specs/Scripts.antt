@@ -1,5 +1,5 @@
 -- Fault scripts: which entries strike where, and what it means that a script is accepted for a program.
-use Rattle.std.specs.Prelude.{◌≡◌, ℕ, ◌≤◌, Bool, true, ◌&&◌, ◌==◌, bit_or, IsTrue, List, [], ◌∷◌, ◌++◌, Option, None, Some, length, filter, slice_get, unwrap_or, All, IsSomeAnd}
+use Rattle.std.specs.Prelude.{◌≡◌, ℕ, ◌^◌, ◌<◌, ◌≤◌, Bool, true, ◌&&◌, ◌==◌, bit_or, IsTrue, List, [], ◌∷◌, ◌++◌, Option, None, Some, length, filter, slice_get, unwrap_or, All, IsSomeAnd}
 use Rattle.std.specs.Option.{option_map_or}
 use Rattle.cd_base.specs.Words.{Words, struck_word}
 use Rattle.cd_tree.specs.declared.domain.NodeId.{NodeId}
@@ -50,8 +50,9 @@ CanStrike tree fault =
     IsSomeAnd (node_of tree.domains fault.node) (λ d.
     (fault.item ≤ length (domain_of d).items) × (node_reach d fault.place ≡ true))
 
--- a script that is accepted for a program: each entry can strike, and can be found
+-- a script that is accepted for a program: it has fewer than 2^32 entries, each can strike, and each can be found
 pub record IsAccepted (tree : Outline) (faults : List Fault) : Type 0 where
+  pub few : length faults < 2 ^ 32
   pub strikes : All (CanStrike tree) faults
   pub found : IsDetectable faults no_kinds (root_of tree.domains)
 

@@ -3,8 +3,8 @@ use Rattle.std.proofs.lemmas.Bool.{eq-eqb}
 use Rattle.cd_tree.specs.Scripts.{kinds_of}
 use Rattle.cd_tree.specs.declared.document.Fault.{Fault}
 use Rattle.cd_reading.proofs.KindLemmas.{no_fault, neq-eqb, kinds_more, kinds_same, kinds_all}
-use Rattle.cd_reading.proofs.sets.kinds_at.Goals as goal
-use Rattle.cd_reading.proofs.sets.kinds_at.Goals.{then-fault-point, else-fault-point}
+use Rattle.cd_reading.proofs.strikes.kinds_at.Goals as goal
+use Rattle.cd_reading.proofs.strikes.kinds_at.Goals.{then-fault-point, else-fault-point}
 
 pub loop-fault-preserved : goal.loop-fault-preserved
 loop-fault-preserved c =

@@ -1,7 +1,7 @@
 use Rattle.std.proofs.Common.{◌≡◌, ◌==◌, bit_or, drop, filter}
 use Rattle.cd_tree.specs.Scripts.{kinds_of}
 use Rattle.cd_tree.specs.declared.document.Fault.{Fault}
-use Rattle.cd_reading.proofs.sets.kinds_at.Given as goal
+use Rattle.cd_reading.proofs.strikes.kinds_at.Given as goal
 
 abbrev pub invariant-loop-fault : goal.invariant-loop-fault
 invariant-loop-fault l =
