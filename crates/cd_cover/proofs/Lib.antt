@@ -11,3 +11,9 @@ pub mod NeedLemmas
 pub mod PlanLemmas
 pub mod LinkLemmas
 pub mod OneAnswer
+pub mod Downward
+pub mod PathLemmas
+pub mod OuterLemmas
+pub mod OuterWhich
+pub mod OuterMembers
+pub mod Fresh
