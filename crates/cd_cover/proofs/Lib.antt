@@ -17,3 +17,4 @@ pub mod OuterLemmas
 pub mod OuterWhich
 pub mod OuterMembers
 pub mod Fresh
+pub mod OuterSteps

@@ -8,3 +8,4 @@ pub mod Seeking
 pub mod Needs
 pub mod Results
 pub mod OuterLaws
+pub mod OuterLeft
