@@ -18,3 +18,5 @@ pub mod OuterWhich
 pub mod OuterMembers
 pub mod Fresh
 pub mod OuterSteps
+pub mod NeedsWithin
+pub mod LinksHold

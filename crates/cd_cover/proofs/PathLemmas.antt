@@ -255,6 +255,40 @@ in_own_parent tree is all id parent domain there up =
           absurd (cc)
     ]
 
+-- a child is named by a group of its parent
+pub child_is_named : (tree : Outline) → IsTree tree → Known tree.domains → (id parent : NodeId) (domain : Domain)
+    → slice_get tree.domains id.0 ≡ Some domain → domain.parent ≡ Some parent
+    → (over : Domain) → slice_get tree.domains parent.0 ≡ Some over → IsNamed id over.items
+child_is_named tree is all id parent domain there up over over_there =
+    let found : InParent tree.domains id domain = in_own_parent tree is all id parent domain there up in
+    let one : found.parent ≡ parent = some_same found.parent parent (sym found.is_parent ∙ up) in
+    let other : slice_get tree.domains parent.0 ≡ Some found.over =
+    subst (λ (i : NodeId). slice_get tree.domains i.0 ≡ Some found.over) one found.there in
+    let both : found.over ≡ over = cc in
+    let view : view_in tree.domains found.parent found.over ≡ view_in tree.domains parent over =
+    ap (λ (i : NodeId). view_in tree.domains i found.over) one ∙ ap (view_in tree.domains parent) both in
+    let before : parent.0 < id.0 = all.before id parent domain there up in
+    elim (numbers_cases tree.domains all parent over over_there id.0
+    (subst (λ (v : Node). Contains (node_numbers v) id.0) view found.among)) [
+      | inl same ↦ absurd (omega arith)
+      | inr below ↦
+          let on : Contains (path_of tree.domains id) below.id =
+          top_on_path tree.domains all below.id below.child.domain below.child.there id domain there below.among in
+          elim (path_cases tree.domains all id domain there below.id on) [
+            | inl same ↦ subst (λ (i : NodeId). IsNamed i over.items) (sym same) below.named
+            | inr above ↦
+                let parents : above.parent ≡ parent = some_same above.parent parent (sym above.is_parent ∙ up) in
+                let low : below.id.0 ≤ above.parent.0 =
+                path_before tree.domains all above.parent above.over above.there below.id above.on_path in
+                let number : above.parent.0 ≡ parent.0 = ap (λ (i : NodeId). i.0) parents in
+                let later : parent.0 < below.id.0 = below.child.later in
+                absurd (omega arith)
+          ]
+    ]
+  where
+    some_same : (one other : NodeId) → Some one ≡ Some other → one ≡ other
+    some_same one other is = cc
+
 -- a domain on a path has the path's end in its subtree
 pub end_in_subtree : (tree : Outline) → IsTree tree → Known tree.domains → (below : NodeId) (last : Domain)
     → slice_get tree.domains below.0 ≡ Some last

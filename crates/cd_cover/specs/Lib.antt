@@ -9,3 +9,4 @@ pub mod Needs
 pub mod Results
 pub mod OuterLaws
 pub mod OuterLeft
+pub mod PlanLaws

@@ -2,6 +2,7 @@
 
 ghost use Rattle.cd_cover.specs.Laws.{FramesGoUp, FramesEnd, LinksLead, KindsChangeNoFlaw, FirstFlawIsOne};
 ghost use Rattle.cd_cover.specs.OuterLaws.{SubtreesByPaths, OuterAreThese, OuterInOrder, OuterOfMembers, OuterLieBelow, FreshOnTheWay, OuterAreFresh};
+ghost use Rattle.cd_cover.specs.PlanLaws.{ReferencesHaveLinks, OnlyReferencesHaveLinks, GroupsNeedWithin, ChildrenNeedWithin};
 
 use cd_tree::laws;
 
@@ -69,6 +70,23 @@ pub fn references_are_fresh_on_the_way()
     ensures members { OuterAreFresh }
 {
     frames_go_up();
+    laws::the_nested_view_follows_the_list();
+    laws::paths_go_from_parent_to_child();
+}
+
+/// Each reference of a plan has a link, a copy or a reference of a domain above that holds its range; no other entry has one.
+pub fn references_and_no_others_have_links()
+    ensures references { ReferencesHaveLinks }
+    ensures only { OnlyReferencesHaveLinks }
+{
+    links_lead_to_what_is_kept();
+}
+
+/// The entries of a domain and the members of one of its groups together need no more blocks than the domain.
+pub fn groups_need_no_more_than_their_domain()
+    ensures groups { GroupsNeedWithin }
+    ensures children { ChildrenNeedWithin }
+{
     laws::the_nested_view_follows_the_list();
     laws::paths_go_from_parent_to_child();
 }
