@@ -67,7 +67,7 @@ found_body P find (Run op ∷ items) finds = found_body P find items finds
 found_body P find (Group ids ∷ items) finds = (found_members P find ids finds, found_body P find items finds)
 
 -- a property of each view of a list holds from each of them down: what stands below a view is a later view
-views_throughout : (P : Node → Type 0) (at : ℕ) (domains : List Domain)
+pub views_throughout : (P : Node → Type 0) (at : ℕ) (domains : List Domain)
     → ((k : ℕ) (d : Node) → slice_get (nodes_from at domains) k ≡ Some d → P d)
     → (k : ℕ) (d : Node) → slice_get (nodes_from at domains) k ≡ Some d → Throughout P d
 views_throughout P at [] each k d is = absurd (cc)

@@ -20,6 +20,12 @@ pub mod PathTexts
 pub mod PathEnds
 pub mod PathOnly
 pub mod Reach
+pub mod SameColumns
+pub mod SeesReads
+pub mod ShapesHold
+pub mod Absorbs
+pub mod FirstFacts
+mod WorkedFirst
 mod WorkedLegal
 pub mod EachDomain
 pub mod Covers

@@ -66,6 +66,13 @@ domain_of (node id domain body) = domain
 abbrev pub body_of : Node → Body
 body_of (node id domain body) = body
 
+-- the body behind its first k items
+abbrev pub body_behind : ℕ → Body → Body
+body_behind zero body = body
+body_behind (suc k) stop = stop
+body_behind (suc k) (run op rest) = body_behind k rest
+body_behind (suc k) (group members rest) = body_behind k rest
+
 abbrev mutual
   -- the numbers of a domain and of all below it, as a walk meets them
   pub node_numbers : Node → List ℕ

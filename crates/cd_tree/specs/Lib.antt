@@ -4,6 +4,9 @@ pub mod Domains
 pub mod Outlines
 pub mod Parts
 pub mod Meaning
+pub mod Locality
+pub mod Absorbing
+pub mod FirstItems
 pub mod Scripts
 pub mod Reading
 pub mod Record

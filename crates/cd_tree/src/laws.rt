@@ -1,6 +1,9 @@
 //! The laws of the reading, each the contract of a function that does nothing: to call it is to have the law.
 
 ghost use Rattle.cd_tree.specs.Begins.{BeginsFollowFailures, BeginsNumberOn};
+ghost use Rattle.cd_tree.specs.Locality.{ColumnIsLocal, OperationIsLocal, OperationLeavesOthers, OperationKeepsAgreement, MeaningIsLocal, OthersStay, AgreementStays, AgreementInEntries, BodyIsLocal, BodyLeavesOthers, BodyKeepsAgreement, ShapesFitInPrograms};
+ghost use Rattle.cd_tree.specs.FirstItems.{FirstThenRest, AllAreFirst, OneItemMore, OneItemLess, ItemsBehind, ItemsBefore, LengthOfItems, LengthBehind, LengthOfFirst, FirstArePart, BehindArePart, FirstLeaveOthers, FirstKeepAgreement, FirstAgreeInEntries, NextItemAgrees, MembersResume, MembersResumeIn};
+ghost use Rattle.cd_tree.specs.Absorbing.{AbsorbingIsMeaning, AbsorbingOne, MembersGiveTheirOwn, GroupLeavesOthers, GroupWritesByMembers, OrderIsNothing, ApartIsUnseen};
 ghost use Rattle.cd_tree.specs.Laws.{RepeatsAreAtMostStrikes, StrikesAreAtMostEntries, RepeatsAreAtMostEntries, CountsAreAtMostOneMoreThanEntries, NestedViewFollows, NoLeakHalts, FoundAtRoots, FoundInPrograms, PathsDiffer, CoveredReach, ReachIsEntries, DisjointByDomains, CoveredByDomains, DetectableByPaths, NeedIsRoots, ParentsComeFirst, PathsGoDown, WordsStay};
 
 /// No more tries are repeated than faults strike, and no more faults strike than the script has entries.
@@ -69,6 +72,90 @@ pub fn paths_go_from_parent_to_child()
 /// Computing takes no word away.
 pub fn words_stay()
     ensures { WordsStay }
+{}
+
+/// Each word that an operation writes comes from a few words of its sources, and an operation changes nothing else. So what
+/// agrees on its sources agrees on its destination.
+pub fn an_operation_sees_its_sources_alone()
+    ensures column { ColumnIsLocal }
+    ensures destination { OperationIsLocal }
+    ensures others { OperationLeavesOthers }
+    ensures agreement { OperationKeepsAgreement }
+{}
+
+/// What a domain computes depends on the words that it reads, and it changes no others than those that it writes: so a run
+/// that holds the words of a covered domain's entries, and no more, computes the same.
+pub fn a_domain_sees_what_it_reads_alone()
+    ensures written { MeaningIsLocal }
+    ensures others { OthersStay }
+    ensures agreement { AgreementStays }
+    ensures entries { AgreementInEntries }
+{}
+
+/// The same of a body, as of the items of a domain that are still to come.
+pub fn a_body_sees_what_it_reads_alone()
+    ensures written { BodyIsLocal }
+    ensures others { BodyLeavesOthers }
+    ensures agreement { BodyKeepsAgreement }
+{}
+
+/// Each domain of a program meets what the laws on what domains see ask of shapes.
+pub fn shapes_fit_in_programs()
+    ensures { ShapesFitInPrograms }
+{}
+
+/// Behind its first items a body goes on with the rest: so a domain that waits for a group, or goes on behind one, has the
+/// words of the items before.
+pub fn first_items_and_the_rest_are_all()
+    ensures rest { FirstThenRest }
+    ensures all { AllAreFirst }
+    ensures more { OneItemMore }
+    ensures less { OneItemLess }
+{}
+
+/// The first items of a body and those behind them are the first and the later items of the list that describes it.
+pub fn a_body_follows_its_items()
+    ensures behind { ItemsBehind }
+    ensures before { ItemsBefore }
+    ensures length { LengthOfItems }
+    ensures left { LengthBehind }
+    ensures first { LengthOfFirst }
+{}
+
+/// What holds of all items of a body holds of its first items, and of those behind them.
+pub fn items_are_part_of_their_body()
+    ensures first { FirstArePart }
+    ensures behind { BehindArePart }
+{}
+
+/// The first items see what they read and change what they write, and no other word.
+pub fn first_items_see_what_they_read_alone()
+    ensures others { FirstLeaveOthers }
+    ensures agreement { FirstKeepAgreement }
+    ensures entries { FirstAgreeInEntries }
+    ensures next { NextItemAgrees }
+{}
+
+/// A domain that waits for a group goes on with what the group's members have written, also where only some places' words
+/// are known, as those of its entries.
+pub fn members_give_what_a_domain_goes_on_with()
+    ensures all { MembersResume }
+    ensures places { MembersResumeIn }
+{}
+
+/// The words after a group are those before, with what each member gives in the places that it writes.
+pub fn absorbing_members_is_their_meaning()
+    ensures all { AbsorbingIsMeaning }
+    ensures one { AbsorbingOne }
+    ensures others { GroupLeavesOthers }
+    ensures writes { GroupWritesByMembers }
+{}
+
+/// Where members are apart, none sees nor overwrites what another has written: their order does not matter.
+pub fn apart_members_come_in_any_order()
+    ensures own { MembersGiveTheirOwn }
+    ensures order { OrderIsNothing }
+    ensures unseen { ApartIsUnseen }
 {}
 
 /// Between two begins of a domain its parent began, or its own try failed and it has not ended: a sibling's failure begins

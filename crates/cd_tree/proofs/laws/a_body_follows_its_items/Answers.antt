@@ -1,0 +1,6 @@
+use Rattle.cd_tree.proofs.FirstFacts.{items_behind, items_before, length_of_items, length_behind, length_of_first}
+use Rattle.cd_tree.proofs.laws.a_body_follows_its_items.Goals as goal
+
+pub returns : goal.returns
+returns c =
+    record { behind = items_behind; before = items_before; length = length_of_items; left = length_behind; first = length_of_first }
