@@ -1,4 +1,5 @@
-mod Worked
+pub mod Worked
+mod WorkedOuter
 pub mod LeastLemmas
 pub mod Frames
 pub mod Views
