@@ -45,3 +45,9 @@ pub mod BeginsReading
 pub mod BeginsTree
 pub mod BeginsSaid
 pub mod BeginsNumbers
+pub mod Slices
+pub mod Filled
+pub mod Named
+pub mod LastChild
+pub mod Places
+mod WorkedSlices

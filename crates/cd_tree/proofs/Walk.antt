@@ -26,11 +26,12 @@ numbers_joined at (suc m) n behind is =
     let many : suc (m + n) ≡ suc m + n = omega arith in
     ap (λ (rest : List ℕ). at ∷ rest) (numbers_joined (suc at) m n behind (omega arith)) ∙ ap (numbers_from at) many
 
-record Parts (xs ys : List ℕ) (at n : ℕ) : Type 0 where
-  front : xs ≡ numbers_from at (length xs)
-  back : ys ≡ numbers_from (at + length xs) (n - length xs)
+-- two lists that are a run of numbers together
+pub record Parts (xs ys : List ℕ) (at n : ℕ) : Type 0 where
+  pub front : xs ≡ numbers_from at (length xs)
+  pub back : ys ≡ numbers_from (at + length xs) (n - length xs)
 
-numbers_parted : (xs ys : List ℕ) (at n : ℕ) → xs ++ ys ≡ numbers_from at n → Parts xs ys at n
+pub numbers_parted : (xs ys : List ℕ) (at n : ℕ) → xs ++ ys ≡ numbers_from at n → Parts xs ys at n
 numbers_parted [] ys at n is =
     let here : at ≡ at + 0 = omega arith in
     let many : n ≡ n - 0 = omega arith in
@@ -120,7 +121,7 @@ members_join find =
     }
 
 -- the element at an index stands before those behind it
-ahead_read : {X : Type 0} (xs : List X) (i : ℕ) (x : X) → i < length xs → x ≡ get_or xs i x → drop i xs ≡ x ∷ drop (i + 1) xs
+pub ahead_read : {X : Type 0} (xs : List X) (i : ℕ) (x : X) → i < length xs → x ≡ get_or xs i x → drop i xs ≡ x ∷ drop (i + 1) xs
 ahead_read xs i x within is = drop_more xs i x within ∙ ap (λ y. y ∷ drop (i + 1) xs) (sym is)
 
 -- what the walk over the rest of a list answers is the answer for the whole list

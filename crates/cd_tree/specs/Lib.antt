@@ -15,3 +15,6 @@ pub mod Paths
 pub mod Refusals
 pub mod Begins
 pub mod Laws
+pub mod Slices
+pub mod Groups
+pub mod SliceLaws

@@ -5,6 +5,7 @@ ghost use Rattle.cd_tree.specs.Locality.{ColumnIsLocal, OperationIsLocal, Operat
 ghost use Rattle.cd_tree.specs.FirstItems.{FirstThenRest, AllAreFirst, OneItemMore, OneItemLess, ItemsBehind, ItemsBefore, LengthOfItems, LengthBehind, LengthOfFirst, FirstArePart, BehindArePart, FirstLeaveOthers, FirstKeepAgreement, FirstAgreeInEntries, NextItemAgrees, MembersResume, MembersResumeIn};
 ghost use Rattle.cd_tree.specs.Absorbing.{AbsorbingIsMeaning, AbsorbingOne, MembersGiveTheirOwn, GroupLeavesOthers, GroupWritesByMembers, OrderIsNothing, ApartIsUnseen};
 ghost use Rattle.cd_tree.specs.Laws.{RepeatsAreAtMostStrikes, StrikesAreAtMostEntries, RepeatsAreAtMostEntries, CountsAreAtMostOneMoreThanEntries, NestedViewFollows, NoLeakHalts, FoundAtRoots, FoundInPrograms, PathsDiffer, CoveredReach, ReachIsEntries, DisjointByDomains, CoveredByDomains, DetectableByPaths, NeedIsRoots, ParentsComeFirst, PathsGoDown, WordsStay};
+ghost use Rattle.cd_tree.specs.SliceLaws.{SubtreesAreSlices, SlicesHaveTheirNumbers, MembersAreSlices, ChildrenFillSlices, SlicesEndWithin, ChildrenStand, ChildrenStandOnce, MembersAreChildren};
 
 /// No more tries are repeated than faults strike, and no more faults strike than the script has entries.
 pub fn repeats_are_at_most_strikes()
@@ -67,6 +68,26 @@ pub fn the_root_needs_the_most()
 pub fn paths_go_from_parent_to_child()
     ensures parents { ParentsComeFirst }
     ensures paths { PathsGoDown }
+{}
+
+/// The numbers of a domain and of those below it are consecutive: a subtree is a slice of the list of domains.
+pub fn subtrees_are_slices()
+    ensures slices { SubtreesAreSlices }
+    ensures numbers { SlicesHaveTheirNumbers }
+    ensures members { MembersAreSlices }
+{}
+
+/// The slices of a domain's children follow each other from behind the domain to the end of its own slice.
+pub fn children_fill_slices()
+    ensures fill { ChildrenFillSlices }
+    ensures within { SlicesEndWithin }
+{}
+
+/// Each domain but the root stands at one place of its parent's groups and nowhere else, and groups name children alone.
+pub fn children_stand_once()
+    ensures stand { ChildrenStand }
+    ensures once { ChildrenStandOnce }
+    ensures children { MembersAreChildren }
 {}
 
 /// Computing takes no word away.
