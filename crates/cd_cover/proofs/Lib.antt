@@ -21,3 +21,5 @@ pub mod Fresh
 pub mod OuterSteps
 pub mod NeedsWithin
 pub mod LinksHold
+pub mod AtGroups
+pub mod OuterWalk

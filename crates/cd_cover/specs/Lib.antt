@@ -10,3 +10,4 @@ pub mod Results
 pub mod OuterLaws
 pub mod OuterLeft
 pub mod PlanLaws
+pub mod KeptWords

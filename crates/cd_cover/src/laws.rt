@@ -2,6 +2,7 @@
 
 ghost use Rattle.cd_cover.specs.Laws.{FramesGoUp, FramesEnd, LinksLead, KindsChangeNoFlaw, FirstFlawIsOne};
 ghost use Rattle.cd_cover.specs.OuterLaws.{SubtreesByPaths, OuterAreThese, OuterInOrder, OuterOfMembers, OuterLieBelow, FreshOnTheWay, OuterAreFresh};
+ghost use Rattle.cd_cover.specs.KeptWords.{WrittenByFirstItems, OuterWordsStay, LinksServeMembers};
 ghost use Rattle.cd_cover.specs.PlanLaws.{ReferencesHaveLinks, OnlyReferencesHaveLinks, GroupsNeedWithin, ChildrenNeedWithin};
 
 use cd_tree::laws;
@@ -89,4 +90,21 @@ pub fn groups_need_no_more_than_their_domain()
 {
     laws::the_nested_view_follows_the_list();
     laws::paths_go_from_parent_to_child();
+}
+
+/// Where a domain waits for a group, the range of each outer reference of a member has the words with which the domain began.
+/// So if these agreed with what the domain's links and its own entries keep, what the links of its members keep is what the
+/// members find.
+pub fn members_find_what_their_links_keep()
+    ensures first { WrittenByFirstItems }
+    ensures words { OuterWordsStay }
+    ensures links { LinksServeMembers }
+{
+    links_lead_to_what_is_kept();
+    outer_references_of_members();
+    references_are_fresh_on_the_way();
+    laws::the_nested_view_follows_the_list();
+    laws::paths_go_from_parent_to_child();
+    laws::children_stand_once();
+    laws::a_body_sees_what_it_reads_alone();
 }
