@@ -1,5 +1,5 @@
 -- Where a domain waits for a group, the ranges of the members' outer references have the words with which it began.
-use Rattle.std.proofs.Common.{◌≡◌, ◌⊎◌, inl, inr, ℕ, zero, suc, ◌+◌, ◌<◌, ◌≤◌, Bool, true, false, ◌&&◌, ◌||◌, ◌==◌, nat_le, nat_lt, List, [], ◌∷◌, Option, None, Some, IsSomeAnd, All, length, slice_get, get_or, refl, sym, ap, ◌∙◌, subst, arith}
+use Rattle.std.proofs.Common.{◌≡◌, ◌⊎◌, inl, inr, ℕ, zero, suc, ◌<◌, ◌≤◌, Bool, true, false, ◌&&◌, ◌||◌, ◌==◌, nat_le, nat_lt, List, [], ◌∷◌, Option, Some, slice_get, refl, sym, ap, ◌∙◌, subst, arith}
 use Rattle.std.specs.List.{Contains, list_any}
 use Rattle.std.proofs.lemmas.Bool.{cases_Bool, and_parts, and_from, eqb-true, eq-eqb, leb-true, le-leb, ltb-true, lt-ltb}
 use Rattle.std.proofs.lemmas.Option.{slice_get_within, slice_get-get_or, get_or_from_slice_get}
@@ -10,11 +10,10 @@ use Rattle.cd_base.specs.Words.{Words, in_range}
 use Rattle.cd_tree.specs.declared.domain.NodeId.{NodeId}
 use Rattle.cd_tree.specs.declared.domain.Item.{Item}
 use Rattle.cd_tree.specs.declared.domain.Item.TheVariants.{Run, Group}
-use Rattle.cd_tree.specs.declared.domain.Entry.{Entry}
 use Rattle.cd_tree.specs.declared.domain.Domain.{Domain}
 use Rattle.cd_tree.specs.declared.groups.GroupPlace.{GroupPlace}
 use Rattle.cd_tree.specs.Operations.{op_writes}
-use Rattle.cd_tree.specs.Outlines.{Outline, IsTree, FitsItems}
+use Rattle.cd_tree.specs.Outlines.{FitsItems}
 use Rattle.cd_tree.specs.Domains.{Node, body_of, body_by, members_by, node_of}
 use Rattle.cd_tree.specs.FirstItems.{first_items, waiting_words}
 use Rattle.cd_tree.specs.Groups.{HasMember, StandsAt, StandsIn}
@@ -30,7 +29,7 @@ use Rattle.cd_cover.specs.Plans.{Planned, IsPlan}
 use Rattle.cd_cover.specs.OuterLaws.{IsChild, LinksTo, OuterAreFresh, OuterOfMembers}
 use Rattle.cd_cover.specs.KeptWords.{WrittenByFirstItems, OuterWordsStay, AgreeWithLinks, AgreeWithEntries, LinksServeMembers}
 use Rattle.cd_cover.proofs.Views.{some_of, some_and, has_member-members_by}
-use Rattle.cd_cover.proofs.Downward.{Known, known_of, view_in, domain_behind, contains_first, contains_behind, contains_cases, contains_none}
+use Rattle.cd_cover.proofs.Downward.{Known, known_of, domain_behind, contains_first, contains_behind, contains_cases, contains_none}
 
 -- ---- the items before a group
 

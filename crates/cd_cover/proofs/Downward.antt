@@ -1,15 +1,15 @@
 -- What the laws of a tree say of one program, an induction from its last domain down to its first, and its subtrees.
-use Rattle.std.proofs.Common.{◌≡◌, ◌⊎◌, inl, inr, ℕ, zero, suc, ◌+◌, ◌<◌, ◌≤◌, List, [], ◌∷◌, ◌++◌, Option, None, Some, IsSomeAnd, length, slice_get, refl, sym, ap, ◌∙◌, subst, arith}
+use Rattle.std.proofs.Common.{◌≡◌, ◌⊎◌, inl, inr, ℕ, zero, suc, ◌+◌, ◌<◌, ◌≤◌, List, [], ◌∷◌, ◌++◌, Option, Some, length, slice_get, refl, sym, ap, ◌∙◌, subst, arith}
 use Rattle.std.specs.Option.{option_map_or}
 use Rattle.std.specs.List.{Contains}
 use Rattle.std.proofs.lemmas.Option.{slice_get_within}
-use Rattle.std.proofs.lemmas.List.Elements.{Contains-append_left, Contains-append_right, Contains-append_cases, Contains-push, Contains-push_cases}
+use Rattle.std.proofs.lemmas.List.Elements.{Contains-append_left, Contains-append_right, Contains-append_cases}
 use Rattle.cd_tree.specs.declared.domain.NodeId.{NodeId}
 use Rattle.cd_tree.specs.declared.domain.Item.{Item}
 use Rattle.cd_tree.specs.declared.domain.Item.TheVariants.{Run, Group}
 use Rattle.cd_tree.specs.declared.domain.Domain.{Domain}
 use Rattle.cd_tree.specs.Outlines.{Outline, IsTree, FitsItems, NamesChildren}
-use Rattle.cd_tree.specs.Domains.{Node, Body, Members, node, put_first, members_by, body_by, nodes_from, node_of, node_numbers, body_numbers, member_numbers}
+use Rattle.cd_tree.specs.Domains.{Node, Members, node, put_first, members_by, body_by, nodes_from, node_of, node_numbers, body_numbers, member_numbers}
 use Rattle.cd_tree.specs.Scripts.{path_of}
 use Rattle.cd_tree.specs.Laws.{NestedViewFollows, ParentsComeFirst, PathsGoDown}
 use Rattle.cd_cover.proofs.Views.{some_of, domain_here, length-nodes_from, tree_fits}

@@ -1,5 +1,5 @@
 -- Between a reference and its link nothing writes the range before the group in which the reference lies.
-use Rattle.std.proofs.Common.{◌≡◌, ◌⊎◌, inl, inr, ℕ, ◌+◌, ◌<◌, ◌≤◌, Bool, true, false, ◌&&◌, ◌||◌, List, [], ◌∷◌, Option, None, Some, IsSomeAnd, length, slice_get, refl, sym, ap, ◌∙◌, subst, arith}
+use Rattle.std.proofs.Common.{◌≡◌, inl, inr, ℕ, ◌<◌, ◌≤◌, Bool, true, false, ◌&&◌, ◌||◌, List, ◌∷◌, Option, None, Some, slice_get, refl, sym, ap, ◌∙◌, subst, arith}
 use Rattle.std.specs.Option.{option_and_then}
 use Rattle.std.specs.List.{Contains}
 use Rattle.cd_base.specs.declared.place.Place.{Place}
@@ -10,7 +10,7 @@ use Rattle.cd_tree.specs.declared.domain.How.{How}
 use Rattle.cd_tree.specs.declared.domain.How.TheVariants.{Copy, Refer, Regen}
 use Rattle.cd_tree.specs.declared.domain.Entry.{Entry}
 use Rattle.cd_tree.specs.declared.domain.Domain.{Domain}
-use Rattle.cd_tree.specs.Domains.{Node, body_of, node_of}
+use Rattle.cd_tree.specs.Domains.{Node, body_of}
 use Rattle.cd_tree.specs.Legal.{entry_at}
 use Rattle.cd_tree.specs.Scripts.{path_of}
 use Rattle.cd_tree.specs.Laws.{NestedViewFollows, ParentsComeFirst, PathsGoDown}
@@ -18,9 +18,8 @@ use Rattle.cd_cover.specs.Laws.{FramesGoUp, FramesEnd}
 use Rattle.cd_cover.specs.Links.{Frame, frame_over, frames_of, holder, link_in, link_of, entry_link, by_way, by_holder, written_before, written_since, stale}
 use Rattle.cd_cover.specs.Outer.{outer_references}
 use Rattle.cd_cover.specs.Plans.{Planned, IsPlan}
-use Rattle.cd_cover.specs.OuterLaws.{IsChild, FreshOnTheWay, OuterAreFresh}
-use Rattle.cd_cover.proofs.Views.{some_of}
-use Rattle.cd_cover.proofs.Downward.{Known, view_in, upward}
+use Rattle.cd_cover.specs.OuterLaws.{FreshOnTheWay, OuterAreFresh}
+use Rattle.cd_cover.proofs.Downward.{view_in, upward}
 use Rattle.cd_cover.proofs.PathLemmas.{path_cases, path_before, top_on_path}
 use Rattle.cd_cover.proofs.LinkLemmas.{link_by}
 use Rattle.cd_cover.proofs.OuterLemmas.{PlanFacts, plan_facts}

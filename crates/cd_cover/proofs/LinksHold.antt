@@ -1,13 +1,11 @@
 -- Each reference of a plan has a link, which is kept and holds its range, and nothing else has one.
-use Rattle.std.proofs.Common.{◌≡◌, ◌≢◌, ℕ, List, Option, None, Some, IsSome, IsSomeAnd, refl, sym, ap, ◌∙◌, subst}
+use Rattle.std.proofs.Common.{◌≡◌, ◌≢◌, ℕ, List, Option, None, Some, IsSome, refl, ap, ◌∙◌}
 use Rattle.std.specs.Option.{option_and_then}
 use Rattle.cd_base.specs.declared.place.Range.{Range}
 use Rattle.cd_tree.specs.declared.domain.NodeId.{NodeId}
 use Rattle.cd_tree.specs.declared.domain.How.{How}
 use Rattle.cd_tree.specs.declared.domain.How.TheVariants.{Copy, Refer, Regen}
-use Rattle.cd_tree.specs.declared.domain.Entry.{Entry}
-use Rattle.cd_tree.specs.Legal.{entry_at}
-use Rattle.cd_cover.specs.Laws.{HoldsLink, LinksLead}
+use Rattle.cd_cover.specs.Laws.{LinksLead}
 use Rattle.cd_cover.specs.Links.{Frame, frames_of, link_in, link_of, entry_link, by_way}
 use Rattle.cd_cover.specs.PlanLaws.{LinkHolds, ReferencesHaveLinks, OnlyReferencesHaveLinks}
 use Rattle.cd_cover.proofs.Views.{some_and}

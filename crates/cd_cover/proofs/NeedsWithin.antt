@@ -1,5 +1,5 @@
 -- What members need, and a domain with them.
-use Rattle.std.proofs.Common.{◌≡◌, ◌⊎◌, inl, inr, ℕ, zero, suc, ◌+◌, ◌≤◌, max, List, [], ◌∷◌, Option, None, Some, slice_get, sum_by, refl, sym, ap, ◌∙◌, subst, arith}
+use Rattle.std.proofs.Common.{◌≡◌, inl, inr, ℕ, zero, suc, ◌+◌, ◌≤◌, max, List, [], ◌∷◌, Option, Some, slice_get, sum_by, refl, sym, ap, ◌∙◌, subst, arith}
 use Rattle.std.specs.Option.{option_map_or}
 use Rattle.std.specs.List.{Contains}
 use Rattle.std.proofs.lemmas.List.Sums.{sum_by-cons}
@@ -7,7 +7,7 @@ use Rattle.cd_tree.specs.declared.domain.NodeId.{NodeId}
 use Rattle.cd_tree.specs.declared.domain.Item.{Item}
 use Rattle.cd_tree.specs.declared.domain.Item.TheVariants.{Run, Group}
 use Rattle.cd_tree.specs.declared.domain.Domain.{Domain}
-use Rattle.cd_tree.specs.Outlines.{Outline, IsTree, FitsItems, NamesChildren}
+use Rattle.cd_tree.specs.Outlines.{FitsItems, NamesChildren}
 use Rattle.cd_tree.specs.Domains.{Node, Members, put_first, members_by, body_by, node_of}
 use Rattle.cd_tree.specs.Meaning.{node_need, body_need, members_need}
 use Rattle.cd_tree.specs.Laws.{NestedViewFollows, ParentsComeFirst, PathsGoDown}

@@ -1,9 +1,9 @@
 -- The outer references of a domain are, domain by domain of its subtree, the entries whose links lead before it.
-use Rattle.std.proofs.Common.{◌≡◌, ◌⊎◌, inl, inr, ℕ, zero, suc, ◌+◌, ◌<◌, ◌≤◌, Bool, true, false, ◌&&◌, nat_lt, List, [], ◌∷◌, ◌++◌, map, Option, None, Some, IsSome, IsSomeAnd, is_none, length, slice_get, get_or, slice_index_or, if◌then◌else◌, refl, sym, ap, ◌∙◌, subst, arith}
+use Rattle.std.proofs.Common.{◌≡◌, inl, inr, ℕ, suc, ◌<◌, ◌≤◌, Bool, true, false, ◌&&◌, nat_lt, List, [], ◌∷◌, ◌++◌, map, Option, None, Some, IsSome, is_none, slice_get, slice_index_or, if◌then◌else◌, refl, sym, ap, ◌∙◌, subst, arith}
 use Rattle.std.specs.Option.{option_and_then, option_map}
 use Rattle.std.specs.List.{Contains, flat_map}
 use Rattle.std.proofs.lemmas.Grind.{flat_map-append}
-use Rattle.std.proofs.lemmas.Option.{slice_get_within, slice_get-map, get_or_from_slice_get}
+use Rattle.std.proofs.lemmas.Option.{slice_get-map, get_or_from_slice_get}
 use Rattle.std.proofs.lemmas.Bool.{ltb-true, lt-ltb, cases_Bool}
 use Rattle.cd_base.specs.declared.place.Range.{Range}
 use Rattle.cd_tree.specs.declared.domain.NodeId.{NodeId}
@@ -13,15 +13,15 @@ use Rattle.cd_tree.specs.declared.domain.How.{How}
 use Rattle.cd_tree.specs.declared.domain.How.TheVariants.{Copy, Refer, Regen}
 use Rattle.cd_tree.specs.declared.domain.Entry.{Entry}
 use Rattle.cd_tree.specs.declared.domain.Domain.{Domain}
-use Rattle.cd_tree.specs.Outlines.{Outline, IsTree, FitsItems, NamesChildren}
-use Rattle.cd_tree.specs.Domains.{Node, Members, node, put_first, members_by, body_by, nodes_from, node_of, number_of, node_numbers, body_numbers, member_numbers}
+use Rattle.cd_tree.specs.Outlines.{FitsItems, NamesChildren}
+use Rattle.cd_tree.specs.Domains.{Node, Members, put_first, members_by, body_by, nodes_from, node_of, number_of, node_numbers, body_numbers, member_numbers}
 use Rattle.cd_tree.specs.Legal.{entry_at}
 use Rattle.cd_tree.specs.Scripts.{path_of}
 use Rattle.cd_tree.specs.Laws.{NestedViewFollows, ParentsComeFirst, PathsGoDown}
 use Rattle.cd_cover.specs.Laws.{FramesGoUp, FramesEnd}
 use Rattle.cd_cover.specs.Links.{Frame, frame_over, frames_of, holder, link_in, entry_link, by_way, link_of}
 use Rattle.cd_cover.specs.Outer.{is_reference, leading_out, frame_at, node_outer, body_outer, members_outer, outer_references}
-use Rattle.cd_cover.specs.Plans.{Planned, IsPlan, HasFreshLinks, links_of}
+use Rattle.cd_cover.specs.Plans.{Planned, IsPlan, links_of}
 use Rattle.cd_cover.specs.OuterLaws.{leads_before, leading_before, leading_of, OuterInOrder}
 use Rattle.cd_cover.proofs.LinkLemmas.{leads_at, links_lead}
 use Rattle.cd_cover.proofs.Downward.{Known, known_of, view_in, domain_behind, Child, downward, child_of_group, contains_first, numbers_cases}

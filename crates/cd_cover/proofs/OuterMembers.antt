@@ -1,5 +1,5 @@
 -- The outer references of a child and of its parent.
-use Rattle.std.proofs.Common.{◌≡◌, ◌↔◌, ◌⊎◌, inl, inr, ℕ, ◌+◌, ◌<◌, ◌≤◌, List, [], ◌∷◌, Option, None, Some, IsSomeAnd, All, length, slice_get, refl, sym, ap, ◌∙◌, subst, arith}
+use Rattle.std.proofs.Common.{◌≡◌, ◌⊎◌, inl, inr, ℕ, ◌<◌, ◌≤◌, List, Option, Some, slice_get, sym, ap, ◌∙◌, subst, arith}
 use Rattle.std.specs.List.{Contains}
 use Rattle.std.proofs.lemmas.List.Elements.{All-weaker, All-contains_itself}
 use Rattle.std.proofs.lemmas.Bool.{cases_lt}
@@ -12,10 +12,9 @@ use Rattle.cd_tree.specs.Laws.{NestedViewFollows, ParentsComeFirst, PathsGoDown}
 use Rattle.cd_cover.specs.Laws.{FramesGoUp, FramesEnd}
 use Rattle.cd_cover.specs.Links.{link_of}
 use Rattle.cd_cover.specs.Outer.{outer_references}
-use Rattle.cd_cover.specs.Plans.{Planned, IsPlan}
 use Rattle.cd_cover.specs.OuterLaws.{LiesAbove, IsOuter, IsChild, LinksTo, OuterOfMembers, OuterLieBelow}
 use Rattle.cd_cover.proofs.Views.{some_of, some_and}
-use Rattle.cd_cover.proofs.Downward.{Known, view_in, domain_behind}
+use Rattle.cd_cover.proofs.Downward.{Known, view_in}
 use Rattle.cd_cover.proofs.PathLemmas.{InParent, in_own_parent, numbers_through, path_cases, path_before, path_up}
 use Rattle.cd_cover.proofs.OuterLemmas.{PlanFacts, plan_facts}
 use Rattle.cd_cover.proofs.OuterWhich.{outer_exactly}

@@ -1,10 +1,10 @@
 -- A walk from a domain's first entry to the end of its slice comes to the domain's outer references.
-use Rattle.std.proofs.Common.{◌≡◌, ℕ, ◌+◌, ◌-◌, ◌<◌, ◌≤◌, ◌^◌, List, Option, Some, IsSomeAnd, length, map, slice_get, sym, ap, ◌∙◌, arith}
+use Rattle.std.proofs.Common.{◌≡◌, ℕ, ◌+◌, ◌-◌, ◌<◌, ◌≤◌, Option, Some, IsSomeAnd, length, sym, ap, ◌∙◌, arith}
 use Rattle.std.specs.Option.{option_map_or}
 use Rattle.std.specs.List.{flat_map}
 use Rattle.std.proofs.lemmas.List.{length-map}
 use Rattle.cd_tree.specs.declared.domain.NodeId.{NodeId}
-use Rattle.cd_tree.specs.Domains.{Node, body_by, nodes_from, node_of, node_numbers, numbers_from}
+use Rattle.cd_tree.specs.Domains.{Node, nodes_from, node_of, node_numbers, numbers_from}
 use Rattle.cd_tree.specs.Laws.{NestedViewFollows}
 use Rattle.cd_tree.specs.Slices.{node_size, slice_end}
 use Rattle.cd_tree.specs.SliceLaws.{SubtreesAreSlices, SlicesEndWithin}

@@ -1,24 +1,22 @@
 -- Which entries are the outer references of a domain: those of its subtree whose links lie above it.
-use Rattle.std.proofs.Common.{◌≡◌, ◌↔◌, ◌⊎◌, inl, inr, ℕ, zero, suc, ◌+◌, ◌<◌, ◌≤◌, Bool, true, false, nat_lt, List, [], ◌∷◌, ◌++◌, map, Option, None, Some, IsSomeAnd, All, length, slice_get, slice_index_or, if◌then◌else◌, refl, sym, ap, ◌∙◌, subst, arith}
+use Rattle.std.proofs.Common.{◌≡◌, ◌↔◌, inl, inr, ℕ, zero, suc, ◌+◌, ◌<◌, true, nat_lt, List, [], ◌∷◌, map, Option, None, Some, slice_get, slice_index_or, refl, sym, ap, ◌∙◌, subst, arith}
 use Rattle.std.specs.Option.{option_and_then, option_map}
 use Rattle.std.specs.List.{Contains, flat_map}
-use Rattle.std.proofs.lemmas.Option.{slice_get_within, slice_get-map}
+use Rattle.std.proofs.lemmas.Option.{slice_get-map}
 use Rattle.std.proofs.lemmas.List.Elements.{Contains-append_left, Contains-append_right, Contains-append_cases}
 use Rattle.std.proofs.lemmas.Bool.{ltb-true, lt-ltb, cases_Bool}
 use Rattle.cd_tree.specs.declared.domain.NodeId.{NodeId}
 use Rattle.cd_tree.specs.declared.domain.Entry.{Entry}
 use Rattle.cd_tree.specs.declared.domain.Domain.{Domain}
 use Rattle.cd_tree.specs.Domains.{Node, node_of, node_numbers}
-use Rattle.cd_tree.specs.Legal.{entry_at}
 use Rattle.cd_tree.specs.Scripts.{path_of}
 use Rattle.cd_tree.specs.Laws.{NestedViewFollows, ParentsComeFirst, PathsGoDown}
 use Rattle.cd_cover.specs.Laws.{FramesGoUp, FramesEnd}
 use Rattle.cd_cover.specs.Links.{frames_of, entry_link, link_of}
 use Rattle.cd_cover.specs.Outer.{outer_references}
-use Rattle.cd_cover.specs.Plans.{Planned, IsPlan}
 use Rattle.cd_cover.specs.OuterLaws.{LiesAbove, IsOuter, OuterAreThese, leads_before, leading_before, leading_of}
 use Rattle.cd_cover.proofs.Views.{some_of, some_and}
-use Rattle.cd_cover.proofs.Downward.{Known, view_in, domain_behind, contains_first, contains_behind, contains_cases, contains_none}
+use Rattle.cd_cover.proofs.Downward.{view_in, domain_behind, contains_first, contains_behind, contains_cases, contains_none}
 use Rattle.cd_cover.proofs.PathLemmas.{path_order, top_on_path}
 use Rattle.cd_cover.proofs.OuterLemmas.{PlanFacts, plan_facts, outer_listed}
 

@@ -1,5 +1,5 @@
 -- Paths and subtrees: a domain stands in the subtree of another exactly where the other is on its path.
-use Rattle.std.proofs.Common.{◌≡◌, ◌⊎◌, inl, inr, ℕ, zero, suc, ◌+◌, ◌<◌, ◌≤◌, List, [], ◌∷◌, ◌++◌, Option, None, Some, IsSomeAnd, length, slice_get, refl, sym, ap, ◌∙◌, subst, arith}
+use Rattle.std.proofs.Common.{◌≡◌, ◌⊎◌, inl, inr, ℕ, zero, suc, ◌+◌, ◌<◌, ◌≤◌, List, [], ◌∷◌, ◌++◌, Option, None, Some, length, slice_get, refl, sym, ap, ◌∙◌, subst, arith}
 use Rattle.std.specs.Option.{option_map_or}
 use Rattle.std.specs.List.{Contains}
 use Rattle.std.proofs.lemmas.Option.{slice_get_within}
@@ -7,12 +7,12 @@ use Rattle.std.proofs.lemmas.List.Elements.{Contains-append_left, Contains-push,
 use Rattle.cd_tree.specs.declared.domain.NodeId.{NodeId}
 use Rattle.cd_tree.specs.declared.domain.Domain.{Domain}
 use Rattle.cd_tree.specs.Outlines.{Outline, IsTree}
-use Rattle.cd_tree.specs.Domains.{Node, node_of, nodes_from, root_of, node_numbers, numbers_from}
+use Rattle.cd_tree.specs.Domains.{Node, node_of, root_of, node_numbers, numbers_from}
 use Rattle.cd_tree.specs.Scripts.{path_of}
 use Rattle.cd_cover.proofs.Views.{some_of, domain_here}
 use Rattle.cd_tree.specs.Laws.{NestedViewFollows, ParentsComeFirst, PathsGoDown}
 use Rattle.cd_cover.specs.OuterLaws.{SubtreesByPaths}
-use Rattle.cd_cover.proofs.Downward.{Known, known_of, view_in, domain_behind, Child, Below, IsNamed, downward, upward, contains_first, contains_behind, child_named, numbers_cases, numbers_of_child}
+use Rattle.cd_cover.proofs.Downward.{Known, known_of, view_in, domain_behind, IsNamed, downward, upward, contains_first, contains_behind, numbers_cases, numbers_of_child}
 
 -- a domain on a path that is not its end is on the parent's
 pub record Above (domains : List Domain) (domain : Domain) (up : NodeId) : Type 0 where

@@ -1,13 +1,12 @@
 -- A worked program of four levels: which references lead out of each domain, in which order, and how a walk comes to them.
 use Rattle.std.proofs.Common.{◌≡◌, ℕ, List, [], ◌∷◌, map, Option, None, Some, refl}
-use Rattle.std.specs.Option.{option_map, option_map_or}
+use Rattle.std.specs.Option.{option_map}
 use Rattle.std.specs.List.{flat_map}
 use Rattle.cd_tree.specs.declared.domain.NodeId.{NodeId}
 use Rattle.cd_tree.specs.declared.domain.Item.TheVariants.{Group}
 use Rattle.cd_tree.specs.declared.domain.Domain.{Domain}
 use Rattle.cd_tree.specs.Outlines.{Outline}
 use Rattle.cd_tree.specs.Domains.{node_of, nodes_from, node_numbers}
-use Rattle.cd_cover.specs.Links.{link_of}
 use Rattle.cd_cover.specs.Outer.{outer_references}
 use Rattle.cd_cover.specs.Plans.{links_of}
 use Rattle.cd_cover.specs.PlanLaws.{need_of}

@@ -1,5 +1,5 @@
 -- The words that links keep, and the laws by which they are still there where a domain waits for a group.
-use Rattle.std.specs.Prelude.{◌≡◌, ℕ, true, List, Option, Some, IsSomeAnd}
+use Rattle.std.specs.Prelude.{◌≡◌, ℕ, true, List, Some, IsSomeAnd}
 use Rattle.std.specs.List.{Contains}
 use Rattle.cd_base.specs.declared.place.Place.{Place}
 use Rattle.cd_base.specs.Words.{Words, in_range}

@@ -1,5 +1,5 @@
 -- The laws of links and needs: what a plan promises of each reference, and a program of each group. Each is a contract of `laws`.
-use Rattle.std.specs.Prelude.{◌≡◌, ◌≢◌, ℕ, ◌+◌, ◌≤◌, List, Option, None, Some, slice_get, sum_by, IsSomeAnd}
+use Rattle.std.specs.Prelude.{◌≡◌, ◌≢◌, ℕ, ◌+◌, ◌≤◌, List, None, Some, slice_get, sum_by, IsSomeAnd}
 use Rattle.std.specs.Option.{option_map_or}
 use Rattle.cd_base.specs.declared.place.Range.{Range}
 use Rattle.cd_tree.specs.declared.domain.NodeId.{NodeId}
