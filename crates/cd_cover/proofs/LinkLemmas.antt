@@ -34,7 +34,7 @@ holder_is r at (first ∷ entries) k entry is =
           (suc rest.0, rest.1 ∙ omega arith, rest.2, rest.3)
     ]
 
-link_by : (r : Range) (frame : Frame) (frames : List Frame) (h : Option (ℕ × Entry)) → holder r 0 frame.entries ≡ h
+pub link_by : (r : Range) (frame : Frame) (frames : List Frame) (h : Option (ℕ × Entry)) → holder r 0 frame.entries ≡ h
     → (up : NodeId) (k : ℕ) → link_in r (frame ∷ frames) ≡ Some (up, k)
     → ((h ≡ None) × (link_in r frames ≡ Some (up, k))) ⊎ ((entry : Entry) × (h ≡ Some (k, entry)) × (frame.node ≡ up))
 link_by r frame frames None is up k link = inl (refl, rw is at link)
@@ -43,7 +43,7 @@ link_by r frame frames (Some (at, entry)) is up k link =
     inr (entry, ap (λ n. Some (n, entry)) same.1, same.0)
 
 -- what a link of a range over a domain leads to
-abbrev Leads : Outline → NodeId → Range → NodeId → ℕ → Type 0
+abbrev pub Leads : Outline → NodeId → Range → NodeId → ℕ → Type 0
 Leads tree id r up k = Contains (path_of tree.domains id) up × (up.0 < id.0) × IsSomeAnd (entry_at tree.domains up k) (HoldsLink r)
 
 entry_here : (domains : List Domain) (id up : NodeId) (k : ℕ) (domain : Domain) (entry : Entry) → slice_get domains id.0 ≡ Some domain → id ≡ up
@@ -82,7 +82,7 @@ leads_here tree id parent up above r k entry among before there holds same =
       some_and (entry_at tree.domains up k) (HoldsLink r) entry here (and_parts (is_kept entry.how) (holds_range entry.range r) found.3),
     )
 
-leads_at : FramesGoUp → FramesEnd → ParentsComeFirst → PathsGoDown → (tree : Outline) → IsTree tree → (n : ℕ) (id : NodeId) (domain : Domain) → id.0 < n
+pub leads_at : FramesGoUp → FramesEnd → ParentsComeFirst → PathsGoDown → (tree : Outline) → IsTree tree → (n : ℕ) (id : NodeId) (domain : Domain) → id.0 < n
     → slice_get tree.domains id.0 ≡ Some domain → (r : Range) (up : NodeId) (k : ℕ)
     → link_in r (frames_of tree.domains id) ≡ Some (up, k) → Leads tree id r up k
 leads_at goes ends parents paths tree is zero id domain below there r up k link = absurd (omega arith)

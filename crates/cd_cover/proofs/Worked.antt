@@ -15,25 +15,25 @@ use Rattle.cd_tree.specs.Meaning.{node_need}
 use Rattle.cd_cover.specs.Links.{frames_of, link_of, target_in, stale}
 use Rattle.cd_cover.specs.Outer.{outer_references}
 
-abbrev number : ℕ → NodeId
+abbrev pub number : ℕ → NodeId
 number n = record { 0 = n }
 
-abbrev part : ℕ → ℕ → ℕ → Range
+abbrev pub part : ℕ → ℕ → ℕ → Range
 part region low high = record { region = region; low = low; high = high }
 
 abbrev place : ℕ → ℕ → Place
 place region index = record { region = region; index = index }
 
-abbrev copied : Range → Entry
+abbrev pub copied : Range → Entry
 copied range = record { range = range; how = Copy }
 
-abbrev referred : Range → Entry
+abbrev pub referred : Range → Entry
 referred range = record { range = range; how = Refer }
 
 abbrev given_anew : Range → Entry
 given_anew range = record { range = range; how = Regen (Const 7) }
 
-abbrev domain : Option NodeId → List Entry → List Item → Domain
+abbrev pub domain : Option NodeId → List Entry → List Item → Domain
 domain parent entries items =
     record { name = []; parent = parent; retry = 1; detects = 0; entries = entries; items = items }
 

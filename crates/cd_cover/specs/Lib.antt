@@ -7,3 +7,7 @@ pub mod Laws
 pub mod Seeking
 pub mod Needs
 pub mod Results
+pub mod OuterLaws
+pub mod OuterLeft
+pub mod PlanLaws
+pub mod KeptWords
