@@ -4,4 +4,6 @@ pub mod OverlapLemmas
 pub mod TreeLemmas
 pub mod SideLemmas
 pub mod OneAnswer
+pub mod BoundedLemmas
+pub mod ThereLemmas
 mod Worked
