@@ -11,3 +11,4 @@ pub mod NeedLemmas
 pub mod PlanLemmas
 pub mod LinkLemmas
 pub mod OneAnswer
+pub mod ThereLemmas

@@ -7,3 +7,4 @@ pub mod Laws
 pub mod Seeking
 pub mod Needs
 pub mod Results
+pub mod There

@@ -99,7 +99,7 @@ bounded_has_least places bounded = go (least_below (HasInRegion places bounded.i
           (
             found.2.2,
             λ q has.
-            not_before p q (λ less. found.3 q.region less (lies q has))
-            (λ same less. found.2.3 q.index less (subst (λ (r : ℕ). Has places r q.index) same has)),
+                not_before p q (λ less. found.3 q.region less (lies q has))
+                (λ same less. found.2.3 q.index less (subst (λ (r : ℕ). Has places r q.index) same has)),
           ),
         )
