@@ -1,4 +1,4 @@
-ghost use Rattle.std.specs.Prelude.{◌≡◌, ℕ, ◌<◌, [], Some};
+ghost use Rattle.std.specs.Prelude.{◌≡◌, ◌<◌, [], Some};
 
 use crate::{Sink, WriteStop};
 use std::alloc::Global;
@@ -19,8 +19,7 @@ impl MemorySink {
     /// Each write takes memory.
     pub fn new(alloc: Global, step: usize, fails: Vec<u64>) -> MemorySink
         requires { 0 < step }
-        ensures holds { ⟦<MemorySink as Sink>⟧.holds result ≡ Some [] }
-        ensures faults { ⟦<MemorySink as Sink>⟧.faults result ≡ 0 }
+        ensures { ⟦<MemorySink as Sink>⟧.model result ≡ record { holds = Some []; faults = 0 } }
     {
         MemorySink {
             bytes: Vec::new(alloc),
@@ -33,16 +32,14 @@ impl MemorySink {
 
     /// What was written so far. It takes no memory.
     pub fn bytes(&self) -> &[u8]
-        ensures { ⟦<MemorySink as Sink>⟧.holds self.now ≡ Some result.now }
+        ensures { (⟦<MemorySink as Sink>⟧.model self.now).holds ≡ Some result.now }
     {
         self.bytes.as_slice()
     }
 }
 
 impl Sink for MemorySink {
-    ghost holds = { λ it. Some it.bytes.items };
-
-    ghost faults = { λ it. it.faults };
+    ghost model = { λ it. record { holds = Some it.bytes.items; faults = it.faults } };
 
     fn write(&mut self, piece: &[u8]) -> Result<usize, WriteStop> {
         self.calls = self.calls.saturating_add(1);

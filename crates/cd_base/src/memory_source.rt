@@ -1,4 +1,4 @@
-ghost use Rattle.std.specs.Prelude.{◌≡◌, ℕ, ◌<◌, ◌≤◌, length, drop, Some};
+ghost use Rattle.std.specs.Prelude.{◌≡◌, ◌<◌, ◌≤◌, length, drop, Some};
 
 use crate::{Failed, Source};
 
@@ -20,8 +20,7 @@ impl MemorySource {
     /// `fails`.
     pub fn new(bytes: Vec<u8>, step: usize, fails: Vec<u64>) -> MemorySource
         requires { 0 < step }
-        ensures left { ⟦<MemorySource as Source>⟧.left result ≡ Some bytes.items }
-        ensures faults { ⟦<MemorySource as Source>⟧.faults result ≡ 0 }
+        ensures { ⟦<MemorySource as Source>⟧.model result ≡ record { left = Some bytes.items; faults = 0 } }
     {
         MemorySource {
             bytes,
@@ -35,9 +34,7 @@ impl MemorySource {
 }
 
 impl Source for MemorySource {
-    ghost left = { λ it. Some (drop it.taken it.bytes.items) };
-
-    ghost faults = { λ it. it.faults };
+    ghost model = { λ it. record { left = Some (drop it.taken it.bytes.items); faults = it.faults } };
 
     fn read(&mut self, buf: &mut [u8]) -> Result<usize, Failed> {
         self.calls = self.calls.saturating_add(1);

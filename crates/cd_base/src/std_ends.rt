@@ -1,6 +1,6 @@
-//! The ends of a running program, over the standard reader and writer. This is the trusted edge: no contract says which
-//! bytes a file, a socket or a terminal gives or takes, so these tell nothing of content, and only count their faults.
-ghost use Rattle.std.specs.Prelude.{◌≡◌, ℕ, None};
+//! The ends of a running program, over a reader and a writer of the standard library. What such a reader has left and such a
+//! writer holds, contracts know as far as it tells them: bytes in memory do, while a file, a socket or a terminal does not.
+ghost use Rattle.std.specs.Prelude.{◌≡◌};
 
 use crate::{Failed, Sink, Source, WriteStop};
 use std::io;
@@ -15,16 +15,14 @@ pub struct StdSource<R> {
 impl<R: io::Read + Drop> StdSource<R> {
     /// A source of what the reader gives, with no fault so far.
     pub fn new(reader: R) -> StdSource<R>
-        ensures { ⟦<StdSource<R> as Source>⟧.faults result ≡ 0 }
+        ensures { ⟦<StdSource<R> as Source>⟧.model result ≡ record { left = R.remaining reader; faults = 0 } }
     {
         StdSource { reader, faults: 0 }
     }
 }
 
 impl<R: io::Read + Drop> Source for StdSource<R> {
-    ghost left = { λ _. None };
-
-    ghost faults = { λ it. it.faults };
+    ghost model = { λ it. record { left = R.remaining it.reader; faults = it.faults } };
 
     fn read(&mut self, buf: &mut [u8]) -> Result<usize, Failed> {
         match self.reader.read(buf) {
@@ -47,16 +45,14 @@ pub struct StdSink<W> {
 impl<W: io::Write + Drop> StdSink<W> {
     /// A sink for what the writer takes, with no fault so far.
     pub fn new(writer: W) -> StdSink<W>
-        ensures { ⟦<StdSink<W> as Sink>⟧.faults result ≡ 0 }
+        ensures { ⟦<StdSink<W> as Sink>⟧.model result ≡ record { holds = W.contents writer; faults = 0 } }
     {
         StdSink { writer, faults: 0 }
     }
 }
 
 impl<W: io::Write + Drop> Sink for StdSink<W> {
-    ghost holds = { λ _. None };
-
-    ghost faults = { λ it. it.faults };
+    ghost model = { λ it. record { holds = W.contents it.writer; faults = it.faults } };
 
     // A writer that takes nothing would never take the rest: that is a fault.
     fn write(&mut self, piece: &[u8]) -> Result<usize, WriteStop> {
