@@ -4,10 +4,13 @@ use Rattle.cd_base.specs.Ends.{SourceModel, TookAtMost}
 use Rattle.cd_base.specs.declared.sink.WriteStop.{WriteStop}
 use Rattle.cd_base.specs.declared.sink.WriteStop.TheVariants as write
 use Rattle.cd_tree.specs.declared.document.Document.{Document}
+use Rattle.cd_tree.specs.declared.document.Fault.{Fault}
 use Rattle.cd_tree.specs.declared.refusal.Refuse.{Refuse}
 use Rattle.cd_tree.specs.declared.refusal.Refuse.TheVariants as refuse
-use Rattle.cd_check.specs.Checking.{FirstRefusalOf}
+use Rattle.cd_check.specs.Checking.{FirstRefusalOf, Passes}
+use Rattle.cd_cover.specs.Plans.{Planned}
 use Rattle.cd_parse.specs.Reading.{parse}
+use Rattle.cd_parse.specs.WellRead.{WellRead}
 use Rattle.cd_app.specs.declared.actions.Action.{Action}
 use Rattle.cd_app.specs.declared.actions.Action.TheVariants as action
 use Rattle.cd_app.specs.declared.receive.Stop.{Stop}
