@@ -49,11 +49,10 @@ moved_bytes bytes copy tail i n e h =
     ∙ take-append-drop n (drop i bytes))
 
 -- one read of the bytes from `i` on, which gives at most `step` of them into a buffer with room
-pub read_from : (bytes buf copy : List ℕ) (i n m step : ℕ) → copy ≡ take n (take (length bytes - i) (drop i bytes)) → length copy ≡ length (take n buf)
-    → m ≡ min (length (take (length bytes - i) (drop i bytes))) step → n ≡ min m (length buf) → 0 < step → 0 < length buf
+pub read_from : (bytes buf copy : List ℕ) (i n step : ℕ) → copy ≡ take n (take (length bytes - i) (drop i bytes)) → length copy ≡ length (take n buf)
+    → n ≡ min (min (length bytes - i) step) (length buf) → 0 < step → 0 < length buf
     → (drop i bytes ≡ take n (copy ++ drop n buf) ++ drop (i + n) bytes) × (n ≡ 0 → 0 < length (copy ++ drop n buf) → drop (i + n) bytes ≡ [])
-read_from bytes buf copy i n m step moved same most count some room =
+read_from bytes buf copy i n step moved same count some room =
     let rest = take_rest bytes i in
     let size : length copy ≡ n = same ∙ length-take-le n buf (omega arith) in
-    let left : length (take (length bytes - i) (drop i bytes)) ≡ length bytes - i = ap length rest ∙ length-drop i bytes in
     (moved_bytes bytes copy (drop n buf) i n (moved ∙ ap (take n) rest) size, λ z h. drop_all (i + n) bytes (omega arith))

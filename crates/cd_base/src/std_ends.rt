@@ -1,6 +1,9 @@
 //! The ends of a running program, over a reader and a writer of the standard library. What such a reader has left and such a
 //! writer holds, contracts know as far as it tells them: bytes in memory do, while a file, a socket or a terminal does not.
-ghost use Rattle.std.specs.Prelude.{◌≡◌};
+ghost use Rattle.std.specs.Prelude.{◌≡◌, ◌<◌, ◌≤◌, length, IfOk, OnOk, OnErr};
+ghost use Rattle.std.specs.Io.{ReadsAtMost};
+ghost use Rattle.std.specs.Io.KnownBytes.{ReadConsumes, WriteAppends};
+ghost use Rattle.cd_base.specs.Ends.{Rose, OnFailed};
 
 use crate::{Failed, Sink, Source, WriteStop};
 use std::io;
@@ -24,7 +27,15 @@ impl<R: io::Read + Drop> StdSource<R> {
 impl<R: io::Read + Drop> Source for StdSource<R> {
     ghost model = { λ it. record { left = R.remaining it.reader; faults = it.faults } };
 
-    fn read(&mut self, buf: &mut [u8]) -> Result<usize, Failed> {
+    // Beyond the trait's own clauses, a read that succeeds is no fault.
+    fn read(&mut self, buf: &mut [u8]) -> Result<usize, Failed>
+        requires { 0 < length buf.old }
+        ensures bound { ReadsAtMost result buf.new }
+        ensures bytes { ReadConsumes (R.remaining self.old.reader) (R.remaining self.new.reader) result buf.new }
+        ensures failed { OnErr result (Rose self.old.faults self.new.faults) }
+        ensures count { self.old.faults ≤ self.new.faults }
+        ensures kept { OnOk result (self.new.faults ≡ self.old.faults) }
+    {
         match self.reader.read(buf) {
             Ok(count) => Ok(count),
             Err(_) => {
@@ -54,8 +65,17 @@ impl<W: io::Write + Drop> StdSink<W> {
 impl<W: io::Write + Drop> Sink for StdSink<W> {
     ghost model = { λ it. record { holds = W.contents it.writer; faults = it.faults } };
 
-    // A writer that takes nothing would never take the rest: that is a fault.
-    fn write(&mut self, piece: &[u8]) -> Result<usize, WriteStop> {
+    // A writer that takes nothing would never take the rest: that is a fault. Beyond the trait's own clauses, a write that
+    // succeeds is no fault, and each that does not is one.
+    fn write(&mut self, piece: &[u8]) -> Result<usize, WriteStop>
+        requires { 0 < length piece.now }
+        ensures some { IfOk result (λ n. 0 < n) }
+        ensures bound { IfOk result (λ n. n ≤ length piece.now) }
+        ensures bytes { WriteAppends (W.contents self.old.writer) (W.contents self.new.writer) result piece.now }
+        ensures failed { OnErr result (Rose self.old.faults self.new.faults) }
+        ensures count { self.old.faults ≤ self.new.faults }
+        ensures kept { OnOk result (self.new.faults ≡ self.old.faults) }
+    {
         match self.writer.write(piece) {
             Ok(count) if 0 < count => Ok(count),
             _ => {

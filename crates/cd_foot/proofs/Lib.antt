@@ -1,7 +1,6 @@
 pub mod FeetLemmas
 pub mod GatherLemmas
 pub mod OverlapLemmas
-pub mod TreeLemmas
 pub mod SideLemmas
 pub mod OneAnswer
 pub mod BoundedLemmas

@@ -5,7 +5,7 @@ use Rattle.cd_report.proofs.record.write_events.Given as goal
 
 abbrev pub invariant-loop-alloc : goal.invariant-loop-alloc
 invariant-loop-alloc g l =
-    WroteSome (g.K.Sink.holds l.fn.sink) (g.K.Sink.holds l.sink) (g.K.Sink.faults l.fn.sink) (g.K.Sink.faults l.sink)
+    WroteSome (g.K.Sink.model l.fn.sink) (g.K.Sink.model l.sink)
     (events_text l.kinds l.regions (drop l.from (g.F.Field.state l.machine).events)) (events_text l.kinds l.regions (g.F.Field.state l.machine).events)
 
 abbrev pub decreases-loop-alloc : goal.decreases-loop-alloc
