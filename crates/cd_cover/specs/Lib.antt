@@ -11,3 +11,4 @@ pub mod OuterLaws
 pub mod OuterLeft
 pub mod PlanLaws
 pub mod KeptWords
+pub mod There

@@ -4,6 +4,7 @@ ghost use Rattle.cd_cover.specs.Laws.{FramesGoUp, FramesEnd, LinksLead, KindsCha
 ghost use Rattle.cd_cover.specs.OuterLaws.{SubtreesByPaths, OuterAreThese, OuterInOrder, OuterOfMembers, OuterLieBelow, FreshOnTheWay, OuterAreFresh};
 ghost use Rattle.cd_cover.specs.KeptWords.{WrittenByFirstItems, OuterWordsStay, LinksServeMembers};
 ghost use Rattle.cd_cover.specs.PlanLaws.{ReferencesHaveLinks, OnlyReferencesHaveLinks, GroupsNeedWithin, ChildrenNeedWithin};
+ghost use Rattle.cd_cover.specs.There.{FirstFlawIsThere};
 
 use cd_tree::laws;
 
@@ -28,6 +29,14 @@ pub fn links_lead_to_what_is_kept()
 pub fn the_names_of_kinds_change_no_flaw()
     ensures { KindsChangeNoFlaw }
 {}
+
+/// Each program has a first flaw, or none.
+pub fn a_program_has_a_first_flaw_or_none()
+    ensures { FirstFlawIsThere }
+{
+    cd_foot::laws::a_bounded_set_has_a_least_place();
+    cd_foot::laws::what_a_domain_reaches_is_bounded();
+}
 
 /// A program has one first flaw, or none.
 pub fn a_program_has_one_first_flaw()

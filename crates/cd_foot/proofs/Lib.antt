@@ -3,4 +3,6 @@ pub mod GatherLemmas
 pub mod OverlapLemmas
 pub mod SideLemmas
 pub mod OneAnswer
+pub mod BoundedLemmas
+pub mod ThereLemmas
 mod Worked
