@@ -1,14 +1,16 @@
 -- A machine as contracts see it, and what each call does to it.
-use Rattle.std.specs.Prelude.{◌≡◌, ℕ, Bool, true, false, ◌||◌, bit_or, List, [], ◌∷◌, ◌++◌, None, IsSome, if◌then◌else◌}
+use Rattle.std.specs.Prelude.{◌≡◌, ℕ, ◌-◌, Bool, true, false, ◌||◌, bit_or, List, [], ◌∷◌, ◌++◌, map, slice_index, Some, None, IsSome, if◌then◌else◌}
+use Rattle.std.specs.List.{range_with_len}
 use Rattle.cd_base.specs.declared.place.Place.{Place}
 use Rattle.cd_base.specs.declared.place.Range.{Range}
-use Rattle.cd_base.specs.Words.{Words, PlaceSet, put, same_place, in_ranges}
+use Rattle.cd_base.specs.Words.{Words, PlaceSet, put, same_place, word_at, in_range, in_ranges}
 use Rattle.cd_tree.specs.declared.domain.NodeId.{NodeId}
 use Rattle.cd_tree.specs.declared.document.Fault.{Fault}
 use Rattle.cd_tree.specs.declared.document.Region.{Region}
 use Rattle.cd_tree.specs.declared.event.Event.{Event}
 use Rattle.cd_tree.specs.declared.event.Event.TheVariants.{Begin, Reached, Escalate}
 use Rattle.cd_tree.specs.KindSets.{no_kinds}
+use Rattle.cd_tree.specs.Operations.{length_of}
 use Rattle.cd_tree.specs.Meaning.{initial, written}
 use Rattle.cd_tree.specs.Scripts.{struck, kinds_of, words_struck}
 
@@ -75,6 +77,25 @@ abbrev pub refilled_word : Machine → Place → ℕ → Machine
 refilled_word m p word = record m {
   words = put m.words p word;
   lost = λ q. if same_place p q then false else m.lost q;
+}
+
+-- the words of a range in order, from its first place on
+abbrev pub words_in : Words → Range → List ℕ
+words_in w r = map (λ i. word_at w (record { region = r.region; index = i })) (range_with_len r.low (length_of r))
+
+-- a list of words laid over a range: the first at its first place, all other places as before
+abbrev pub laid : Words → Range → List ℕ → Words
+laid w r words = λ q. if in_range r q then Some (slice_index words (q.index - r.low)) else w q
+
+-- the words of a range changed
+abbrev pub wrote_run : Machine → Range → List ℕ → Machine
+wrote_run m r words = record m { words = laid m.words r words }
+
+-- the words of a range put back, which are present then
+abbrev pub refilled_run : Machine → Range → List ℕ → Machine
+refilled_run m r words = record m {
+  words = laid m.words r words;
+  lost = λ q. if in_range r q then false else m.lost q;
 }
 
 -- a point reached: its faults strike in script order and their kinds join the notes

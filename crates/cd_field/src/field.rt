@@ -1,8 +1,10 @@
-ghost use Rattle.std.specs.Prelude.{◌≡◌, ◌≢◌, ◌⊎◌, Some, IsSome, true, OnOk, IfOk, All, slice_get};
+ghost use Rattle.std.specs.Prelude.{◌≡◌, ◌≢◌, ◌⊎◌, [], ◌∷◌, Some, IsSome, true, OnOk, IfOk, All, length, slice_get};
+ghost use Rattle.cd_base.specs.Words.{in_range};
+ghost use Rattle.cd_tree.specs.Operations.{length_of};
 ghost use Rattle.cd_tree.specs.declared.event.Event.TheVariants.{Saved, Fell, Lapsed, Refilled, Halted, Found, Complete};
-ghost use Rattle.cd_field.specs.Machine.{Machine, IsPresent, ArePresent, CanAbsorb, hits_at, loaded, told, begun, wrote, refilled_word, reached_point, gone_up, part_of, without, absorbed};
+ghost use Rattle.cd_field.specs.Machine.{Machine, IsPresent, ArePresent, CanAbsorb, hits_at, loaded, told, begun, wrote, refilled_word, words_in, wrote_run, refilled_run, reached_point, gone_up, part_of, without, absorbed};
 
-use cd_base::{NoMemory, Place, Places};
+use cd_base::{NoMemory, Place, Places, Range};
 use cd_tree::{Event, Kept, Kinds, NodeId, Regions, Script};
 
 /// A machine: words at places, a record, notes of faults, and the script by which it strikes its own words.
@@ -33,6 +35,51 @@ pub trait Field: Sized + Send + Drop {
     fn refill(&mut self, place: Place, word: u64)
         requires { IsSome ((state self.old).words place) }
         ensures { state self.new ≡ refilled_word (state self.old) place word };
+
+    /// The words of a range in order, into a list of that length. A range may be empty. It takes no memory.
+    fn read_run(&self, range: Range, words: &mut [u64])
+        requires present { ArePresent (state self.now) (range ∷ []) }
+        requires long { length words.old ≡ length_of range }
+        ensures { words.new ≡ words_in (state self.now).words range }
+    {
+        for index in range.low..range.high {
+            words[(index - range.low) as usize] = self.read(Place {
+                region: range.region,
+                index,
+            });
+        }
+    }
+
+    /// Changes the words of a range to those of a list of that length. A range may be empty. It takes no memory.
+    fn write_run(&mut self, range: Range, words: &[u64])
+        requires present { ArePresent (state self.old) (range ∷ []) }
+        requires long { length words.now ≡ length_of range }
+        ensures { state self.new ≡ wrote_run (state self.old) range words.now }
+    {
+        for index in range.low..range.high {
+            let place = Place {
+                region: range.region,
+                index,
+            };
+            self.write(place, words[(index - range.low) as usize]);
+        }
+    }
+
+    /// Puts the words of a range back from a list of that length, so that its places are present. A range may be empty.
+    /// It takes no memory.
+    fn refill_run(&mut self, range: Range, words: &[u64])
+        requires known { (p : _) → in_range range p ≡ true → IsSome ((state self.old).words p) }
+        requires long { length words.now ≡ length_of range }
+        ensures { state self.new ≡ refilled_run (state self.old) range words.now }
+    {
+        for index in range.low..range.high {
+            let place = Place {
+                region: range.region,
+                index,
+            };
+            self.refill(place, words[(index - range.low) as usize]);
+        }
+    }
 
     /// The domain in hand comes to a point: the script's faults for it strike, in order.
     fn reached(&mut self, point: u32) -> Result<(), NoMemory>

@@ -77,6 +77,18 @@ impl Field for ScriptField {
         self.words.put_back(place, word);
     }
 
+    fn read_run(&self, range: Range, words: &mut [u64]) {
+        self.words.read_run(range, words);
+    }
+
+    fn write_run(&mut self, range: Range, words: &[u64]) {
+        self.words.write_run(range, words);
+    }
+
+    fn refill_run(&mut self, range: Range, words: &[u64]) {
+        self.words.put_back_run(range, words);
+    }
+
     fn reached(&mut self, point: u32) -> Result<(), NoMemory> {
         let node = self.node;
         self.events.push(Event::Reached { node, point })?;

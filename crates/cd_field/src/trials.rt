@@ -114,6 +114,28 @@ fn change<F: Field>(field: &mut F, random: u64) -> Result<(), Fail>
     Ok(())
 }
 
+// A call that changes the words of a range of the first region, which may be empty.
+fn change_run<F: Field>(field: &mut F, random: u64) -> Result<(), Fail>
+    requires { IsReady (F.state field.old) }
+    ensures { OnOk result (IsReady (F.state field.new)) }
+{
+    let low = pick(random, 1 << 36, 5) as u32;
+    let high = low + pick(random, 1 << 32, u64::from(5 - low)) as u32;
+    let range = Range {
+        region: 0,
+        low,
+        high,
+    };
+    let words = [random, !random, random / 3, 0];
+    let words = &words[..(high - low) as usize];
+    if pick(random, 1 << 40, 2) == 0 {
+        field.write_run(range, words);
+    } else {
+        field.refill_run(range, words);
+    }
+    Ok(())
+}
+
 // A call that tells of a domain's end, or of its kinds.
 fn tell_end<F: Field>(field: &mut F, random: u64) -> Result<(), Fail>
     requires { IsReady (F.state field.old) }
@@ -191,41 +213,35 @@ fn step<F: Field>(field: &mut F, alloc: Global, random: u64) -> Result<(), Fail>
         0 => hand_over(field, alloc, random)?,
         1 => tell_entry(field, random)?,
         2 => tell_end(field, random)?,
+        3 => change_run(field, random)?,
         _ => change(field, random)?,
     }
     Ok(())
 }
 
-// The six words.
-fn look<F: Field>(field: &F) -> [u64; 6]
+// The four words and the two.
+fn look<F: Field>(field: &F) -> ([u64; 4], [u64; 2])
     requires { IsReady (F.state field.now) }
 {
-    [
-        field.read(Place {
+    let mut four = [0; 4];
+    field.read_run(
+        Range {
             region: 0,
-            index: 0,
-        }),
-        field.read(Place {
-            region: 0,
-            index: 1,
-        }),
-        field.read(Place {
-            region: 0,
-            index: 2,
-        }),
-        field.read(Place {
-            region: 0,
-            index: 3,
-        }),
-        field.read(Place {
+            low: 0,
+            high: 4,
+        },
+        &mut four,
+    );
+    let mut two = [0; 2];
+    field.read_run(
+        Range {
             region: 1,
-            index: 0,
-        }),
-        field.read(Place {
-            region: 1,
-            index: 1,
-        }),
-    ]
+            low: 0,
+            high: 2,
+        },
+        &mut two,
+    );
+    (four, two)
 }
 
 // Whether two machines give the same: the words, the notes, and the events from a number on, up to one that neither has.
