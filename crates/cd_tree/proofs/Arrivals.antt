@@ -1,12 +1,10 @@
 -- Each arrival of a domain in its record is one of its fronts: where an event stands in lists that are put together.
-use Rattle.std.proofs.Common.{◌≡◌, ℕ, zero, suc, ◌+◌, ◌-◌, ◌⊎◌, Bool, true, false, ◌==◌, bit_or, bit_and, List, [], ◌∷◌, ◌++◌, Option, None, Some, is_none, refl, ap, sym, ◌∙◌, subst, append_assoc, inl, inr}
-use Rattle.std.proofs.lemmas.Bool.{cases_Bool}
+use Rattle.std.proofs.Common.{◌≡◌, ℕ, suc, ◌⊎◌, Bool, true, false, List, [], ◌∷◌, ◌++◌, refl, ap, sym, ◌∙◌, subst, append_assoc, inl, inr}
 use Rattle.cd_tree.specs.declared.domain.NodeId.{NodeId}
 use Rattle.cd_tree.specs.declared.domain.Entry.{Entry}
-use Rattle.cd_tree.specs.declared.domain.Domain.{Domain}
 use Rattle.cd_tree.specs.declared.event.Event.{Event}
 use Rattle.cd_tree.specs.declared.event.Event.TheVariants.{Begin, Reached}
-use Rattle.cd_tree.specs.Reading.{Case, Counts, TryEnd, Passed, Failed, Broken, Told, saved_from, refilled_from, prepared, escalation, ended}
+use Rattle.cd_tree.specs.Reading.{saved_from, refilled_from, prepared}
 use Rattle.cd_tree.proofs.EventsTold.{Every}
 
 -- an event that is no arrival of this domain

@@ -1,23 +1,22 @@
 -- Each arrival of a domain in its record is one of its fronts, and each front ends with its arrival.
-use Rattle.std.proofs.Common.{◌≡◌, ℕ, zero, suc, ◌+◌, ◌-◌, Bool, true, false, ◌==◌, bit_or, bit_and, List, [], ◌∷◌, ◌++◌, Option, None, Some, is_none, refl, ap, sym, ◌∙◌, subst, append_assoc, inl, inr}
+use Rattle.std.proofs.Common.{◌≡◌, ℕ, zero, suc, ◌+◌, ◌-◌, Bool, true, false, ◌==◌, bit_or, bit_and, List, [], ◌∷◌, ◌++◌, Some, is_none, refl, ap, sym, ◌∙◌, subst, append_assoc, inl, inr}
 use Rattle.std.proofs.lemmas.Bool.{cases_Bool, eqb-true}
 use Rattle.cd_tree.specs.declared.domain.NodeId.{NodeId}
-use Rattle.cd_tree.specs.declared.domain.Entry.{Entry}
 use Rattle.cd_tree.specs.declared.domain.Domain.{Domain}
 use Rattle.cd_tree.specs.declared.event.Event.{Event}
 use Rattle.cd_tree.specs.declared.event.Event.TheVariants.{Begin, Reached, Complete, Escalate}
 use Rattle.cd_tree.specs.KindSets.{no_kinds, kinds_without}
-use Rattle.cd_tree.specs.Domains.{Node, Body, Members, node, stop, run, group, body_behind, body_numbers, member_numbers}
+use Rattle.cd_tree.specs.Domains.{Node, Body, Members, node, stop, run, group, body_numbers, member_numbers}
 use Rattle.cd_tree.specs.declared.operation.Op.{Op}
-use Rattle.cd_tree.specs.Reading.{Case, Counts, Past, joined, Told, told, after, TryEnd, Passed, Failed, Broken, NodeEnd, GroupEnd, AllDone, SomeEscalated, Try, refilled_from, prepared, escalation, halted, unless_halted, group_ended, behind_group, ended, unless_failed, tries, read_node, read_points, read_members, read_try}
-use Rattle.cd_tree.specs.Fronts.{Stand, Front, stand_at, arrival, arrives, begins, past_item, where_none, next_point, behind_point, behind_arrival, tried, next_try, front_of_node, behind_front, WaitsAt}
+use Rattle.cd_tree.specs.Reading.{Case, Counts, Past, joined, Told, told, after, TryEnd, Passed, Failed, Broken, NodeEnd, GroupEnd, AllDone, SomeEscalated, Try, refilled_from, prepared, escalation, halted, unless_halted, group_ended, ended, unless_failed, tries, read_node, read_points, read_members, read_try}
+use Rattle.cd_tree.specs.Fronts.{Stand, Front, arrives, begins, past_item, where_none, next_point, behind_point, behind_arrival, tried, front_of_node, behind_front, WaitsAt}
 use Rattle.cd_tree.specs.FrontLaws.{StandsThere, FrontBehind, FrontsEndThere, ArrivalsAreFronts, teller_of}
 use Rattle.cd_tree.specs.CountLaws.{among}
 use Rattle.cd_tree.proofs.EventsTold.{Every, every_append}
 use Rattle.cd_tree.proofs.TellOwn.{TellerIn, members_tell_own}
 use Rattle.cd_tree.proofs.Arrivals.{NoArrival, split, not_among, arrivals, append_nil, begin_none, refilled_none}
-use Rattle.cd_tree.proofs.FrontParts.{repeated, after_twice, read_by_arrival, begins_leads, goes_on}
-use Rattle.cd_tree.proofs.FrontSteps.{IfThere, Onward, next_onward, tried_all, among_neither, behind_has_no_more}
+use Rattle.cd_tree.proofs.FrontParts.{repeated, read_by_arrival, begins_leads, goes_on}
+use Rattle.cd_tree.proofs.FrontSteps.{Onward, next_onward, tried_all, among_neither, behind_has_no_more}
 use Rattle.cd_tree.proofs.FrontsStand.{Kept, in_fronts, if_there, fronts_stand}
 use Rattle.cd_tree.proofs.FrontsWait.{next_there, next_try_is_there, passes_groups}
 

@@ -1,5 +1,5 @@
 -- A property of each event that a reading tells: it follows from that of the events of each of its domains.
-use Rattle.std.proofs.Common.{◌≡◌, ℕ, zero, suc, ◌+◌, ◌-◌, Bool, true, false, ◌==◌, bit_or, bit_and, List, [], ◌∷◌, ◌++◌, length, is_none, arith}
+use Rattle.std.proofs.Common.{ℕ, zero, suc, ◌+◌, ◌-◌, Bool, true, false, ◌==◌, bit_or, bit_and, List, [], ◌∷◌, ◌++◌, length, is_none, arith}
 use Rattle.std.specs.List.{All}
 use Rattle.std.proofs.lemmas.List.Elements.{All-nil, All-cons}
 use Rattle.cd_tree.specs.declared.domain.NodeId.{NodeId}
@@ -7,11 +7,11 @@ use Rattle.cd_tree.specs.declared.domain.Entry.{Entry}
 use Rattle.cd_tree.specs.declared.domain.Domain.{Domain}
 use Rattle.cd_tree.specs.declared.document.Fault.{Fault}
 use Rattle.cd_tree.specs.declared.event.Event.{Event}
-use Rattle.cd_tree.specs.declared.event.Event.TheVariants.{Begin, Saved, Refilled, Reached, Halted, Found, Complete, Escalate}
+use Rattle.cd_tree.specs.declared.event.Event.TheVariants.{Begin, Refilled, Reached, Halted, Found, Complete, Escalate}
 use Rattle.cd_tree.specs.KindSets.{no_kinds, kinds_without}
 use Rattle.cd_tree.specs.Scripts.{struck, kinds_of}
 use Rattle.cd_tree.specs.Domains.{Node, Body, Members, node, stop, run, group, no_more, member, domain_of, Throughout, ThroughoutBody, ThroughoutMembers}
-use Rattle.cd_tree.specs.Reading.{Case, Counts, counted, Past, only_events, Told, told, after, TryEnd, Passed, Failed, Broken, NodeEnd, GroupEnd, AllDone, SomeEscalated, Try, saved_from, refilled_from, prepared, begun, halted, unless_halted, arrived, detected, group_ended, behind_group, with_end, with_member, escalation, ended, unless_failed, tries, read_node, read_points, read_members}
+use Rattle.cd_tree.specs.Reading.{Case, Counts, counted, Past, only_events, Told, after, TryEnd, Passed, Failed, Broken, NodeEnd, GroupEnd, AllDone, SomeEscalated, Try, saved_from, refilled_from, prepared, begun, halted, unless_halted, arrived, detected, group_ended, behind_group, with_end, with_member, escalation, ended, unless_failed, tries, read_node, read_points, read_members}
 
 -- a property of each of these events, one by one
 abbrev pub Every : (Event → Type 0) → List Event → Type 0

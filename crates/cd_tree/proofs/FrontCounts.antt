@@ -1,13 +1,12 @@
 -- The counts at fronts, and behind the members of a group, lie between those before a reading and those after it.
-use Rattle.std.proofs.Common.{◌≡◌, ℕ, zero, suc, ◌+◌, ◌-◌, ◌*◌, ◌≤◌, Bool, true, false, cond, ◌==◌, bit_and, if◌then◌else◌, List, [], ◌∷◌, ◌++◌, Option, None, Some, refl, ap, sym, ◌∙◌, subst, arith, le_refl, inl, inr}
-use Rattle.std.specs.Option.{option_and_then}
+use Rattle.std.proofs.Common.{◌≡◌, ℕ, zero, suc, ◌+◌, ◌≤◌, true, false, cond, ◌==◌, bit_and, ◌++◌, Some, refl, ap, sym, ◌∙◌, subst, arith, le_refl, inl, inr}
 use Rattle.std.proofs.lemmas.Bool.{cases_Bool, eqb-true}
 use Rattle.cd_tree.specs.declared.domain.NodeId.{NodeId}
 use Rattle.cd_tree.specs.declared.domain.Domain.{Domain}
-use Rattle.cd_tree.specs.KindSets.{no_kinds, kinds_without}
+use Rattle.cd_tree.specs.KindSets.{no_kinds}
 use Rattle.cd_tree.specs.Domains.{Node, Body, Members, node, stop, run, group, no_more, member, body_behind, node_numbers, body_numbers, member_numbers}
-use Rattle.cd_tree.specs.Reading.{Case, Counts, counted, Told, after, TryEnd, Failed, NodeEnd, GroupEnd, AllDone, Try, group_ended, detected, begun, tries, read_node, read_points, read_members, read_try}
-use Rattle.cd_tree.specs.Fronts.{Stand, Front, begins, next_point, behind_point, behind_arrival, front_of_node, behind_front, behind_members, WaitsAt}
+use Rattle.cd_tree.specs.Reading.{Case, Counts, counted, Told, after, TryEnd, NodeEnd, GroupEnd, Try, group_ended, tries, read_node, read_points, read_members, read_try}
+use Rattle.cd_tree.specs.Fronts.{Stand, next_point, behind_point, behind_arrival, behind_front, behind_members}
 use Rattle.cd_tree.specs.FrontLaws.{StandsThere, PassedPointsAreQuiet, NoGroupLeakHalts, FrontCountsLieBetween, MemberCountsLieBelow}
 use Rattle.cd_tree.specs.CountLaws.{copies, AreDistinct, among, AgreeOn, EachMember, MembersStayBelow}
 use Rattle.cd_tree.proofs.Leaks.{QuietGroup, members_quiet}

@@ -1,13 +1,12 @@
 -- How what was told before goes out of a part of the reading, and what stands at the begin of a try.
-use Rattle.std.proofs.Common.{◌≡◌, ℕ, zero, suc, ◌+◌, ◌-◌, Bool, true, false, ◌==◌, bit_or, bit_and, if◌then◌else◌, List, [], ◌∷◌, ◌++◌, Option, None, Some, is_none, length, refl, ap, sym, ◌∙◌, subst, arith, append_assoc}
-use Rattle.std.proofs.lemmas.Bool.{cases_Bool, eqb-true, eqb-false}
+use Rattle.std.proofs.Common.{◌≡◌, ℕ, zero, suc, ◌+◌, Bool, true, false, ◌==◌, bit_and, List, [], ◌∷◌, ◌++◌, is_none, refl, ap, sym, ◌∙◌, arith, append_assoc}
 use Rattle.cd_tree.specs.declared.domain.NodeId.{NodeId}
 use Rattle.cd_tree.specs.declared.domain.Domain.{Domain}
 use Rattle.cd_tree.specs.declared.event.Event.{Event}
 use Rattle.cd_tree.specs.declared.event.Event.TheVariants.{Begin, Complete}
-use Rattle.cd_tree.specs.KindSets.{no_kinds, kinds_without}
-use Rattle.cd_tree.specs.Domains.{Node, Body, Members, node, stop, run, group}
-use Rattle.cd_tree.specs.Reading.{Case, Counts, counted, Past, only_events, joined, Told, told, after, TryEnd, Passed, Failed, Broken, NodeEnd, Done, Escalated, GroupEnd, AllDone, SomeEscalated, Try, prepared, halted, unless_halted, group_ended, escalation, ended, unless_failed, tries, read_node, read_points, read_members, read_try}
+use Rattle.cd_tree.specs.KindSets.{no_kinds}
+use Rattle.cd_tree.specs.Domains.{Body, node, stop, run, group}
+use Rattle.cd_tree.specs.Reading.{Case, Counts, counted, Past, only_events, joined, Told, told, after, TryEnd, Passed, Failed, Broken, NodeEnd, Done, Escalated, Try, prepared, unless_halted, escalation, ended, unless_failed, tries, read_points, read_try}
 use Rattle.cd_tree.specs.Fronts.{Stand, Front, stand_at, arrival, arrives, begins, behind_point, behind_arrival, behind_front}
 
 -- the same past, with one repeat more

@@ -1,18 +1,17 @@
 -- From one front to the next: what stays, and that the reading goes on from either.
-use Rattle.std.proofs.Common.{◌≡◌, ℕ, zero, suc, ◌+◌, ◌-◌, Bool, true, false, ◌==◌, ◌||◌, bit_or, bit_and, if◌then◌else◌, List, [], ◌∷◌, ◌++◌, Option, None, Some, length, refl, ap, sym, ◌∙◌, subst, arith, inl, inr, ◌≤◌, le_refl}
-use Rattle.std.proofs.lemmas.Bool.{cases_Bool, eqb-true}
-use Rattle.std.proofs.lemmas.Bool.Decides.{nat_tests}
+use Rattle.std.proofs.Common.{◌≡◌, ℕ, zero, suc, Bool, true, false, ◌==◌, bit_or, bit_and, List, [], ◌∷◌, ◌++◌, Option, None, Some, refl, ap, sym, ◌∙◌, subst, arith, inl, inr, ◌≤◌, le_refl}
+use Rattle.std.proofs.lemmas.Bool.{cases_Bool}
 use Rattle.std.proofs.lemmas.Nat.Bits.{bit_at_or, bit_at_and, bit_at-zero, same_from_bits}
 use Rattle.std.specs.Int.{bit_at}
 use Rattle.cd_tree.specs.declared.event.Event.{Event}
 use Rattle.cd_tree.specs.declared.event.Event.TheVariants.{Reached}
 use Rattle.cd_tree.specs.KindSets.{no_kinds, kinds_without}
-use Rattle.cd_tree.specs.Domains.{Node, Body, Members, node, stop, run, group, body_behind, body_numbers, member_numbers}
+use Rattle.cd_tree.specs.Domains.{Node, Body, stop, run, group, body_behind, body_numbers, member_numbers}
 use Rattle.cd_tree.specs.Scripts.{struck, kinds_of}
 use Rattle.cd_tree.specs.Reading.{Case, Counts, Past, joined, Told, told, after, TryEnd, Passed, Failed, Broken, GroupEnd, AllDone, SomeEscalated, Try, halted, unless_halted, group_ended, read_points, read_members}
 use Rattle.cd_tree.specs.Fronts.{Stand, Front, arrives, begins, past_group, past_item, where_none, next_point, behind_point, behind_arrival, tried}
 use Rattle.cd_tree.specs.CountLaws.{among}
-use Rattle.cd_tree.proofs.Leaks.{QuietGroup, none_is_quiet, or_is_quiet, members_quiet}
+use Rattle.cd_tree.proofs.Leaks.{QuietGroup, or_is_quiet, members_quiet}
 use Rattle.cd_tree.proofs.CountsReading.{member-counts-do-not-fall}
 use Rattle.cd_tree.proofs.OtherCounts.{points_others_stay, members_others_stay, among_left, among_right}
 use Rattle.cd_tree.proofs.FrontParts.{repeated, after_twice, arrives_leads, goes_on}

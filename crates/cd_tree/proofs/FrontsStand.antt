@@ -1,20 +1,19 @@
 -- The fronts of a domain, one by one from the first: that the reading goes on from each, and where it stands.
-use Rattle.std.proofs.Common.{◌≡◌, ℕ, zero, suc, ◌+◌, ◌-◌, Bool, true, false, ◌==◌, bit_or, bit_and, if◌then◌else◌, List, [], ◌∷◌, ◌++◌, Option, None, Some, length, refl, ap, sym, ◌∙◌, subst, arith}
+use Rattle.std.proofs.Common.{◌≡◌, ℕ, zero, suc, ◌+◌, ◌-◌, Bool, true, false, ◌==◌, bit_and, if◌then◌else◌, Option, None, Some, refl, ap, sym, ◌∙◌, subst, arith}
 use Rattle.std.specs.Option.{option_and_then}
 use Rattle.std.proofs.lemmas.Bool.{eqb-true}
 use Rattle.std.proofs.lemmas.Bool.Decides.{nat_tests}
 use Rattle.cd_tree.specs.declared.domain.NodeId.{NodeId}
 use Rattle.cd_tree.specs.declared.domain.Domain.{Domain}
-use Rattle.cd_tree.specs.declared.event.Event.{Event}
 use Rattle.cd_tree.specs.KindSets.{no_kinds}
-use Rattle.cd_tree.specs.Domains.{Node, Body, Members, node, group, body_behind, body_numbers}
+use Rattle.cd_tree.specs.Domains.{Node, Body, node, body_behind, body_numbers}
 use Rattle.cd_tree.specs.Scripts.{struck, kinds_of}
-use Rattle.cd_tree.specs.Reading.{Case, Counts, counted, Past, joined, Told, told, after, Blame, TryEnd, Failed, NodeEnd, GroupEnd, AllDone, SomeEscalated, Try, behind_group, group_ended, unless_failed, tries, read_node, read_points, read_members, read_try}
-use Rattle.cd_tree.specs.Fronts.{Stand, Front, arrives, begins, past_group, past_item, where_none, next_point, behind_point, behind_arrival, tried, next_try, first_front, front_of_try, points_on, front_of_node, behind_front, WaitsAt, behind_members}
-use Rattle.cd_tree.specs.FrontLaws.{FrontsLead, RecordsBegin, FirstPointIsThere, NextPointIsThere, NextTryIsThere, StandsThere, FrontsStand, MembersLead, WaitingIsQuiet, PassesGroups, StopsAtGroups}
+use Rattle.cd_tree.specs.Reading.{Case, Counts, counted, Told, after, Blame, TryEnd, Failed, NodeEnd, Try, unless_failed, tries, read_node, read_try}
+use Rattle.cd_tree.specs.Fronts.{Front, begins, next_point, behind_arrival, next_try, first_front, front_of_try, points_on, front_of_node, behind_front}
+use Rattle.cd_tree.specs.FrontLaws.{FrontsLead, RecordsBegin, StandsThere, FrontsStand}
 use Rattle.cd_tree.specs.CountLaws.{among}
 use Rattle.cd_tree.proofs.Leaks.{none_is_quiet}
-use Rattle.cd_tree.proofs.FrontParts.{repeated, after_twice, tries_after, begins_leads, goes_on}
+use Rattle.cd_tree.proofs.FrontParts.{repeated, after_twice, tries_after, begins_leads}
 use Rattle.cd_tree.proofs.FrontSteps.{IfThere, there, Onward, notes_halt, next_onward, tried_all, behind_arrival_stays, behind_one_more, behind_has_no_more}
 
 -- what holds of each front, by its try and point: it holds of the first, at the next point, and at the next try

@@ -1,13 +1,10 @@
 -- Fronts at which a domain waits for the members of a group, what their end leaves, and when the next try is there.
-use Rattle.std.proofs.Common.{◌≡◌, ℕ, zero, suc, ◌+◌, ◌-◌, Bool, true, false, ◌==◌, bit_or, bit_and, List, [], ◌∷◌, ◌++◌, Option, None, Some, refl, ap, sym, ◌∙◌, subst, arith}
+use Rattle.std.proofs.Common.{◌≡◌, ℕ, zero, suc, Bool, true, false, ◌==◌, bit_or, bit_and, Option, None, Some, refl, ap, sym, ◌∙◌, subst}
 use Rattle.std.specs.Option.{option_and_then}
-use Rattle.std.proofs.lemmas.Bool.Decides.{nat_tests}
-use Rattle.cd_tree.specs.declared.domain.NodeId.{NodeId}
-use Rattle.cd_tree.specs.declared.domain.Domain.{Domain}
 use Rattle.cd_tree.specs.KindSets.{no_kinds}
 use Rattle.cd_tree.specs.Domains.{Node, Body, Members, node, group}
-use Rattle.cd_tree.specs.Reading.{Case, Counts, Past, joined, Told, told, after, Blame, TryEnd, NodeEnd, GroupEnd, AllDone, SomeEscalated, Try, behind_group, group_ended, tries, read_node, read_points, read_members, read_try}
-use Rattle.cd_tree.specs.Fronts.{Stand, Front, arrives, past_group, past_item, where_none, next_point, behind_point, behind_arrival, tried, next_try, front_of_try, points_on, front_of_node, behind_front, WaitsAt, behind_members}
+use Rattle.cd_tree.specs.Reading.{Case, Counts, Told, after, TryEnd, GroupEnd, AllDone, SomeEscalated, group_ended, tries, read_points, read_members, read_try}
+use Rattle.cd_tree.specs.Fronts.{Stand, Front, arrives, past_group, past_item, where_none, next_point, behind_point, behind_arrival, tried, next_try, front_of_try, points_on, front_of_node, WaitsAt}
 use Rattle.cd_tree.specs.FrontLaws.{FirstPointIsThere, NextPointIsThere, NextTryIsThere, StandsThere, MembersLead, WaitingIsQuiet, PassesGroups, StopsAtGroups}
 use Rattle.cd_tree.proofs.FrontParts.{after_twice, tries_after, goes_on}
 use Rattle.cd_tree.proofs.FrontSteps.{IfThere, Onward, next_onward}

@@ -1,7 +1,6 @@
 -- Legal records go together piece by piece, and go on: what the reading expects next can always be told legally.
-use Rattle.std.proofs.Common.{◌≡◌, ◌≢◌, ◌↔◌, ℕ, zero, suc, ◌+◌, ◌-◌, ◌<◌, ◌≤◌, ◌⊎◌, Bool, true, false, ◌==◌, List, [], ◌∷◌, ◌++◌, Option, None, Some, IsSome, IsSomeAnd, refl, ap, sym, ◌∙◌, subst, arith, inl, inr}
+use Rattle.std.proofs.Common.{◌≡◌, ◌≢◌, ℕ, zero, suc, ◌<◌, ◌⊎◌, true, false, List, [], ◌∷◌, ◌++◌, Option, None, Some, IsSome, IsSomeAnd, refl, ap, sym, ◌∙◌, subst, arith, inl, inr}
 use Rattle.std.proofs.lemmas.Bool.{cases_eq, cases_Bool}
-use Rattle.std.specs.List.{All}
 use Rattle.cd_base.specs.declared.place.Place.{Place}
 use Rattle.cd_base.specs.declared.place.Range.{Range}
 use Rattle.cd_base.specs.declared.pattern.Pattern.{Pattern}
@@ -16,7 +15,7 @@ use Rattle.cd_tree.specs.declared.event.Event.{Event}
 use Rattle.cd_tree.specs.declared.event.Event.TheVariants.{Begin, Saved, Fell, Lapsed, Refilled, Reached, Halted, Found, Complete, Escalate}
 use Rattle.cd_tree.specs.Outlines.{Outline}
 use Rattle.cd_tree.specs.Reading.{how_kept}
-use Rattle.cd_tree.specs.Legal.{entry_at, OfPattern, IsPatternAnd, GivesWords, Differs, DiffersFirst, IsKeptTo, MayStand, MayFall, Legal, nothing, same, fell, lapsed}
+use Rattle.cd_tree.specs.Legal.{entry_at, OfPattern, IsPatternAnd, GivesWords, Differs, DiffersFirst, MayStand, MayFall, Legal, nothing, same, fell, lapsed}
 use Rattle.cd_tree.specs.LegalLaws.{LegalPieces, SavesAsDeclared, HasPatternWords, LegalFrontsGoOn, LegalFrontsOfRecords, LegalFront, nothing_yet, same_so_far, fell_so_far, falling, lapsed_so_far, lapsing, LegalFrontsAreFronts}
 use Rattle.cd_tree.proofs.Apart.{Within, within}
 use Rattle.cd_tree.proofs.EventsTold.{Every, every_all}

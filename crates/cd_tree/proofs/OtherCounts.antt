@@ -1,15 +1,12 @@
 -- A reading knows no counts but its own: the laws of `CountLaws` on it, and members that are read each by itself.
-use Rattle.std.proofs.Common.{◌≡◌, ℕ, zero, suc, ◌+◌, ◌-◌, ◌≤◌, Bool, true, false, cond, ◌==◌, ◌||◌, List, [], ◌∷◌, ◌++◌, refl, ap, sym, ◌∙◌, subst, arith, inl, inr}
+use Rattle.std.proofs.Common.{◌≡◌, ℕ, suc, ◌+◌, ◌-◌, ◌≤◌, Bool, true, false, cond, ◌==◌, ◌||◌, List, [], ◌∷◌, ◌++◌, refl, ap, sym, ◌∙◌, subst, arith, inl, inr}
 use Rattle.std.proofs.Math.Path.{fun_ext}
 use Rattle.std.proofs.lemmas.Bool.{cases_Bool}
 use Rattle.std.proofs.lemmas.Bool.Decides.{nat_tests}
-use Rattle.cd_tree.specs.declared.domain.NodeId.{NodeId}
-use Rattle.cd_tree.specs.declared.domain.Domain.{Domain}
 use Rattle.cd_tree.specs.KindSets.{no_kinds}
-use Rattle.cd_tree.specs.Domains.{Node, Body, Members, node, stop, run, group, no_more, member, root_of, node_numbers, body_numbers, member_numbers, Throughout, ThroughoutBody, ThroughoutMembers, numbers_from}
-use Rattle.cd_tree.specs.Outlines.{Outline, IsTree}
-use Rattle.cd_tree.specs.Reading.{Case, Counts, Told, after, NodeEnd, GroupEnd, Try, detected, begun, behind_group, with_end, with_member, tries, read_node, read_points, read_members}
-use Rattle.cd_tree.specs.CountLaws.{copies, AreDistinct, among, counts_on, AgreeOn, from_other, ReadsOwnCounts, ReadsPointsCounts, ReadsMembersCounts, read_each, EachIsInOrder, NumbersAreDistinct}
+use Rattle.cd_tree.specs.Domains.{Node, Body, Members, node, stop, run, group, no_more, member, root_of, node_numbers, body_numbers, member_numbers, Throughout, ThroughoutBody, ThroughoutMembers}
+use Rattle.cd_tree.specs.Reading.{Case, Counts, Told, after, NodeEnd, GroupEnd, Try, detected, begun, behind_group, with_end, with_member, read_node, read_points, read_members}
+use Rattle.cd_tree.specs.CountLaws.{copies, AreDistinct, among, AgreeOn, ReadsOwnCounts, ReadsPointsCounts, ReadsMembersCounts, read_each, EachIsInOrder, NumbersAreDistinct}
 use Rattle.cd_tree.proofs.EachDomain.{of_each}
 use Rattle.cd_tree.proofs.Numbers.{copies-append, copies-at_most_one}
 use Rattle.cd_tree.proofs.OtherParts.{on, put, on_inside, on_outside, begun_other, arrived_other, behind_group_other, with_member_other, tries_other}

@@ -1,5 +1,5 @@
 -- What a part of the reading comes to from other counts: the same, where the counts of a set of numbers are the same.
-use Rattle.std.proofs.Common.{◌≡◌, ℕ, zero, suc, ◌+◌, Bool, true, false, ◌==◌, bit_or, bit_and, if◌then◌else◌, List, [], ◌∷◌, length, is_none, refl, ap, sym, ◌∙◌, subst, inl, inr}
+use Rattle.std.proofs.Common.{◌≡◌, ℕ, zero, suc, ◌+◌, Bool, true, false, ◌==◌, bit_or, bit_and, if◌then◌else◌, List, [], ◌∷◌, length, refl, ap, ◌∙◌, inl, inr}
 use Rattle.std.proofs.Math.Path.{fun_ext}
 use Rattle.std.proofs.lemmas.Bool.{cases_Bool, eqb-true}
 use Rattle.cd_tree.specs.declared.domain.NodeId.{NodeId}
@@ -8,7 +8,7 @@ use Rattle.cd_tree.specs.declared.document.Fault.{Fault}
 use Rattle.cd_tree.specs.declared.event.Event.TheVariants.{Begin, Reached}
 use Rattle.cd_tree.specs.KindSets.{no_kinds, kinds_without}
 use Rattle.cd_tree.specs.Scripts.{struck, kinds_of}
-use Rattle.cd_tree.specs.Reading.{Case, Counts, counted, Past, only_events, Told, told, after, TryEnd, Passed, Failed, Broken, NodeEnd, GroupEnd, AllDone, SomeEscalated, Try, prepared, begun, halted, unless_halted, arrived, detected, group_ended, behind_group, with_end, with_member, ended, unless_failed, tries}
+use Rattle.cd_tree.specs.Reading.{Case, Counts, counted, only_events, Told, after, TryEnd, Passed, Failed, Broken, NodeEnd, GroupEnd, AllDone, SomeEscalated, Try, prepared, begun, halted, unless_halted, arrived, group_ended, behind_group, with_end, with_member, ended, unless_failed, tries}
 
 -- the new counts of the numbers of a set, and the old ones of all others
 abbrev pub on : (ℕ → Bool) → Counts → Counts → Counts

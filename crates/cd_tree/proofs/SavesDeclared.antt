@@ -1,10 +1,10 @@
 -- A reading saves the entries of its domains as they are declared.
-use Rattle.std.proofs.Common.{◌≡◌, ℕ, zero, suc, ◌+◌, List, [], ◌∷◌, Option, None, Some, IsSomeAnd, slice_get, refl, ap, sym, ◌∙◌, subst, arith}
+use Rattle.std.proofs.Common.{◌≡◌, ℕ, suc, ◌+◌, List, [], ◌∷◌, Option, Some, IsSomeAnd, slice_get, refl, ap, sym, ◌∙◌, subst, arith}
 use Rattle.std.specs.Option.{option_and_then}
 use Rattle.cd_tree.specs.declared.domain.NodeId.{NodeId}
 use Rattle.cd_tree.specs.declared.domain.Entry.{Entry}
 use Rattle.cd_tree.specs.declared.domain.Domain.{Domain}
-use Rattle.cd_tree.specs.Domains.{Node, node, root_of, nodes_from, Throughout}
+use Rattle.cd_tree.specs.Domains.{Node, root_of, nodes_from, Throughout}
 use Rattle.cd_tree.specs.Outlines.{Outline, IsTree}
 use Rattle.cd_tree.specs.Reading.{how_kept, saved_from, no_begins, read_node}
 use Rattle.cd_tree.specs.Record.{record_of, case_of}

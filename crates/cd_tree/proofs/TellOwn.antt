@@ -1,5 +1,5 @@
 -- A reading tells events of its own domains alone.
-use Rattle.std.proofs.Common.{◌≡◌, ℕ, Bool, true, false, List, [], ◌∷◌, ◌++◌}
+use Rattle.std.proofs.Common.{◌≡◌, ℕ, Bool, true, List, [], ◌∷◌}
 use Rattle.cd_tree.specs.declared.domain.NodeId.{NodeId}
 use Rattle.cd_tree.specs.declared.domain.Entry.{Entry}
 use Rattle.cd_tree.specs.declared.event.Event.{Event}
@@ -7,7 +7,7 @@ use Rattle.cd_tree.specs.Domains.{Node, Body, Members, node, stop, run, group, n
 use Rattle.cd_tree.specs.Reading.{Case, Counts, saved_from, read_node, read_members}
 use Rattle.cd_tree.specs.FrontLaws.{teller_of, DomainsTellTheirOwn}
 use Rattle.cd_tree.specs.CountLaws.{among}
-use Rattle.cd_tree.proofs.EventsTold.{Every, all_every, Tells, TellsAll, AllTold, node_all, members_all}
+use Rattle.cd_tree.proofs.EventsTold.{Every, all_every, Tells, TellsAll, node_all, members_all}
 use Rattle.cd_tree.proofs.OtherCounts.{Holds, among_first, or_right, among_left, among_right}
 
 -- the teller's number is in the set

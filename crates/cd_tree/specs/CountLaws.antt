@@ -3,7 +3,7 @@ use Rattle.std.specs.Prelude.{◌≡◌, ℕ, ◌+◌, ◌*◌, ◌≤◌, Bool,
 use Rattle.cd_tree.specs.KindSets.{no_kinds}
 use Rattle.cd_tree.specs.Domains.{Node, Body, Members, no_more, member, node_numbers, body_numbers, member_numbers}
 use Rattle.cd_tree.specs.Outlines.{Outline, IsTree}
-use Rattle.cd_tree.specs.Reading.{Case, Counts, silence, Told, told, NodeEnd, GroupEnd, AllDone, Try, TryEnd, with_member, read_node, read_points, read_members}
+use Rattle.cd_tree.specs.Reading.{Case, Counts, silence, Told, told, GroupEnd, AllDone, Try, with_member, read_node, read_points, read_members}
 use Rattle.cd_tree.specs.Laws.{OfEach}
 
 -- how often n stands among these numbers

@@ -1,6 +1,6 @@
 -- The laws of records and their fronts: who tells the events, where fronts are and what they tell, and that the reading
 -- goes on from them.
-use Rattle.std.specs.Prelude.{◌≡◌, ℕ, suc, ◌+◌, ◌-◌, ◌≤◌, true, false, bit_and, bit_or, List, [], ◌∷◌, ◌++◌, Option, None, Some, All}
+use Rattle.std.specs.Prelude.{◌≡◌, ℕ, suc, ◌+◌, ◌-◌, ◌≤◌, true, false, bit_and, bit_or, List, [], ◌∷◌, ◌++◌, None, Some, All}
 use Rattle.std.specs.Option.{option_and_then}
 use Rattle.cd_tree.specs.declared.domain.NodeId.{NodeId}
 use Rattle.cd_tree.specs.declared.domain.Domain.{Domain}

@@ -1,6 +1,6 @@
 -- The fronts of a domain's reading: where its tries stand at their points, one by one, and what of the reading is left
 -- behind each. A front is there exactly where the reading comes there.
-use Rattle.std.specs.Prelude.{◌≡◌, ℕ, zero, suc, ◌+◌, ◌-◌, Bool, true, false, ◌==◌, bit_or, bit_and, List, [], ◌∷◌, Option, None, Some, length}
+use Rattle.std.specs.Prelude.{◌≡◌, ℕ, zero, suc, ◌+◌, ◌-◌, Bool, true, false, ◌==◌, bit_or, bit_and, [], ◌∷◌, Option, None, Some, length}
 use Rattle.std.specs.Option.{option_and_then}
 use Rattle.cd_tree.specs.declared.event.Event.TheVariants.{Begin, Reached}
 use Rattle.cd_tree.specs.KindSets.{no_kinds}
