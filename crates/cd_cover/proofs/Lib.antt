@@ -23,3 +23,4 @@ pub mod NeedsWithin
 pub mod LinksHold
 pub mod AtGroups
 pub mod OuterWalk
+pub mod OuterAscend

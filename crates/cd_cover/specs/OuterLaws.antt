@@ -5,6 +5,7 @@ use Rattle.std.specs.List.{Contains, flat_map}
 use Rattle.cd_base.specs.declared.place.Place.{Place}
 use Rattle.cd_base.specs.Words.{in_range}
 use Rattle.cd_tree.specs.declared.domain.NodeId.{NodeId}
+use Rattle.cd_tree.specs.declared.domain.How.TheVariants.{Refer}
 use Rattle.cd_tree.specs.declared.domain.Entry.{Entry}
 use Rattle.cd_tree.specs.declared.domain.Domain.{Domain}
 use Rattle.cd_tree.specs.Outlines.{Outline, IsTree}
@@ -38,6 +39,25 @@ abbrev pub OuterAreThese : Type 0
 OuterAreThese =
     (plan : Planned) → IsPlan plan
     → OfEach plan.tree (λ d. (reference : NodeId × ℕ) → Contains (outer_references d) reference ↔ IsOuter plan.tree.domains d reference)
+
+-- each is a reference
+abbrev pub OuterAreReferences : Type 0
+OuterAreReferences =
+    (plan : Planned) → IsPlan plan
+    → OfEach plan.tree (λ d. All (λ reference. IsSomeAnd (entry_at plan.tree.domains reference.0 reference.1) (λ entry. entry.how ≡ Refer)) (outer_references d))
+
+-- an entry stands before another: in a domain before, or before it in the same domain
+abbrev pub ComesBefore : NodeId × ℕ → NodeId × ℕ → Type 0
+ComesBefore (id, at) (other, k) = (id.0 < other.0) ⊎ ((id ≡ other) × (at < k))
+
+-- each entry stands before all that follow it
+abbrev pub Ascend : List (NodeId × ℕ) → Type 0
+Ascend [] = Unit {0}
+Ascend (first ∷ rest) = All (ComesBefore first) rest × Ascend rest
+
+-- the outer references of a domain ascend: none stands twice
+abbrev pub OuterAscend : Type 0
+OuterAscend = (plan : Planned) → IsPlan plan → OfEach plan.tree (λ d. Ascend (outer_references d))
 
 -- whether a link leads to a domain that stands before this one
 abbrev pub leads_before : ℕ → Option (NodeId × ℕ) → Bool
