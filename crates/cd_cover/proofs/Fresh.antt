@@ -1,7 +1,8 @@
 -- Between a reference and its link nothing writes the range before the group in which the reference lies.
-use Rattle.std.proofs.Common.{◌≡◌, inl, inr, ℕ, ◌<◌, ◌≤◌, Bool, true, false, ◌&&◌, ◌||◌, List, ◌∷◌, Option, None, Some, slice_get, refl, sym, ap, ◌∙◌, subst, arith}
+use Rattle.std.proofs.Common.{◌≡◌, inl, inr, ℕ, ◌<◌, ◌≤◌, Bool, true, false, ◌&&◌, List, ◌∷◌, Option, None, Some, slice_get, refl, sym, ap, ◌∙◌, subst, arith}
 use Rattle.std.specs.Option.{option_and_then}
 use Rattle.std.specs.List.{Contains}
+use Rattle.std.proofs.lemmas.Bool.{or_parts}
 use Rattle.cd_base.specs.declared.place.Place.{Place}
 use Rattle.cd_base.specs.declared.place.Range.{Range}
 use Rattle.cd_base.specs.Words.{in_range}
@@ -24,10 +25,6 @@ use Rattle.cd_cover.proofs.OuterLemmas.{PlanFacts, plan_facts}
 use Rattle.cd_cover.proofs.OuterWhich.{reference_of}
 use Rattle.cd_cover.proofs.OuterMembers.{OuterParts, outer_parts, link_over, Family, family, view_is}
 
-or_none : (a b : Bool) → (a || b) ≡ false → (a ≡ false) × (b ≡ false)
-or_none true b is = absurd (cc)
-or_none false b is = (refl, is)
-
 and_here : (a b : Bool) → (a && b) ≡ false → a ≡ true → b ≡ false
 and_here true b is here = is
 and_here false b is here = absurd (cc)
@@ -35,14 +32,14 @@ and_here false b is here = absurd (cc)
 -- what is not written since: not in the nearest domain above, nor, where that has no link, further up
 since_here : (r : Range) (frame : Frame) (frames : List Frame) (p : Place) → written_since r (frame ∷ frames) p ≡ false → frame.before p ≡ false
 since_here r frame frames p none =
-    (or_none (frame.before p)
+    (or_parts (frame.before p)
     (by_holder (holder r 0 frame.entries) (written_since r frames p) (λ at. false) (λ outer. written_since outer frames p)) none).0
 
 since_above : (r : Range) (frame : Frame) (frames : List Frame) (p : Place) → written_since r (frame ∷ frames) p ≡ false
     → holder r 0 frame.entries ≡ None → written_since r frames p ≡ false
 since_above r frame frames p none beyond =
     ap (λ (h : Option (ℕ × Entry)). by_holder h (written_since r frames p) (λ at. false) (λ outer. written_since outer frames p)) (sym beyond)
-    ∙ (or_none (frame.before p)
+    ∙ (or_parts (frame.before p)
     (by_holder (holder r 0 frame.entries) (written_since r frames p) (λ at. false) (λ outer. written_since outer frames p)) none).1
 
 -- a member and its parent on the way from a domain up to a link

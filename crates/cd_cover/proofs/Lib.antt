@@ -24,3 +24,4 @@ pub mod LinksHold
 pub mod AtGroups
 pub mod OuterWalk
 pub mod OuterAscend
+pub mod RangesRead

@@ -13,6 +13,7 @@ use Rattle.cd_tree.specs.Domains.{Node, node, number_of, body_of, node_of, node_
 use Rattle.cd_tree.specs.Laws.{OfEach}
 use Rattle.cd_tree.specs.Scripts.{path_of}
 use Rattle.cd_tree.specs.Legal.{entry_at}
+use Rattle.cd_tree.specs.Meaning.{LieIn, node_reads}
 use Rattle.cd_cover.specs.Links.{link_of, written_before}
 use Rattle.cd_cover.specs.Outer.{outer_references}
 use Rattle.cd_cover.specs.Plans.{Planned, IsPlan}
@@ -24,6 +25,12 @@ abbrev pub SubtreesByPaths : Type 0
 SubtreesByPaths =
     (tree : Outline) → IsTree tree → (id below : NodeId) (d : Node) → node_of tree.domains id ≡ Some d → below.0 < length tree.domains
     → Contains (node_numbers d) below.0 ↔ Contains (path_of tree.domains below) id
+
+-- what any entry of a subtree preserves is read by the domain at its top
+abbrev pub EntriesAreRead : Type 0
+EntriesAreRead =
+    (tree : Outline) → IsTree tree → (id below : NodeId) (d : Node) (at : ℕ) (entry : Entry) → node_of tree.domains id ≡ Some d
+    → Contains (node_numbers d) below.0 → entry_at tree.domains below at ≡ Some entry → LieIn (in_range entry.range) (node_reads d)
 
 -- above a domain: on its path, and before it
 abbrev pub LiesAbove : List Domain → NodeId → NodeId → Type 0

@@ -1,7 +1,7 @@
 //! The laws of frames, links and flaws, each the contract of a function that does nothing: to call it is to have the law.
 
 ghost use Rattle.cd_cover.specs.Laws.{FramesGoUp, FramesEnd, LinksLead, KindsChangeNoFlaw, FirstFlawIsOne};
-ghost use Rattle.cd_cover.specs.OuterLaws.{SubtreesByPaths, OuterAreThese, OuterAreReferences, OuterInOrder, OuterAscend, OuterOfMembers, OuterLieBelow, FreshOnTheWay, OuterAreFresh};
+ghost use Rattle.cd_cover.specs.OuterLaws.{SubtreesByPaths, EntriesAreRead, OuterAreThese, OuterAreReferences, OuterInOrder, OuterAscend, OuterOfMembers, OuterLieBelow, FreshOnTheWay, OuterAreFresh};
 ghost use Rattle.cd_cover.specs.KeptWords.{WrittenByFirstItems, OuterWordsStay, LinksServeMembers};
 ghost use Rattle.cd_cover.specs.PlanLaws.{ReferencesHaveLinks, OnlyReferencesHaveLinks, GroupsNeedWithin, ChildrenNeedWithin};
 
@@ -34,9 +34,11 @@ pub fn a_program_has_one_first_flaw()
     ensures { FirstFlawIsOne }
 {}
 
-/// A domain stands in the subtree of another, which is the other and all below it, exactly where the other is on its path.
+/// A domain stands in the subtree of another, which is the other and all below it, exactly where the other is on its path; and
+/// what its entries preserve the other reads.
 pub fn subtrees_are_seen_on_paths()
-    ensures { SubtreesByPaths }
+    ensures paths { SubtreesByPaths }
+    ensures entries { EntriesAreRead }
 {
     laws::the_nested_view_follows_the_list();
     laws::paths_go_from_parent_to_child();
