@@ -29,14 +29,9 @@ use Rattle.cd_cover.specs.Plans.{Planned, IsPlan}
 use Rattle.cd_cover.specs.OuterLaws.{IsChild, LinksTo, OuterAreFresh, OuterOfMembers}
 use Rattle.cd_cover.specs.KeptWords.{WrittenByFirstItems, OuterWordsStay, AgreeWithLinks, AgreeWithEntries, LinksServeMembers}
 use Rattle.cd_cover.proofs.Views.{some_of, some_and, has_member-members_by}
-use Rattle.cd_cover.proofs.Downward.{Known, known_of, domain_behind, contains_first, contains_behind, contains_cases, contains_none}
+use Rattle.cd_cover.proofs.Downward.{Known, known_of, domain_behind, same_id, contains_first, contains_behind, contains_cases, contains_none}
 
 -- ---- the items before a group
-
-is_id : (id m : NodeId) → (m.0 == id.0) ≡ true → m ≡ id
-is_id id m same =
-    let make : ℕ → NodeId = λ k. record { 0 = k } in
-    ap make (eqb-true m.0 id.0 same)
 
 any_of_contains : (ids : List NodeId) (id : NodeId) → Contains ids id → list_any (λ (m : NodeId). m.0 == id.0) ids ≡ true
 any_of_contains [] id among = absurd (contains_none id among)
@@ -56,7 +51,7 @@ contains_of_any : (ids : List NodeId) (id : NodeId) → list_any (λ (m : NodeId
 contains_of_any [] id any = absurd (cc)
 contains_of_any (first ∷ ids) id any =
     elim (cases_Bool (first.0 == id.0)) [
-      | inl same ↦ subst (Contains (first ∷ ids)) (is_id id first same) (contains_first first ids)
+      | inl same ↦ subst (Contains (first ∷ ids)) (same_id first id (eqb-true first.0 id.0 same)) (contains_first first ids)
       | inr other ↦ contains_behind first ids id (contains_of_any ids id (rw other at any))
     ]
 

@@ -86,6 +86,12 @@ pub upward : (domains : List Domain) (P : NodeId → Domain → Type 0)
     → (id : NodeId) (domain : Domain) → slice_get domains id.0 ≡ Some domain → P id domain
 upward domains P step id domain there = upward_for (suc id.0) domains P step id domain there (omega arith)
 
+-- two numbers of domains are one where the numbers in them are
+pub same_id : (one other : NodeId) → one.0 ≡ other.0 → one ≡ other
+same_id one other same =
+    let make : ℕ → NodeId = λ k. record { 0 = k } in
+    ap make same
+
 -- ---- lists
 
 pub contains_first : {X : Type 0} (x : X) (xs : List X) → Contains (x ∷ xs) x

@@ -1,13 +1,12 @@
 -- Between a reference and its link nothing writes the range before the group in which the reference lies.
-use Rattle.std.proofs.Common.{◌≡◌, inl, inr, ℕ, ◌<◌, ◌≤◌, Bool, true, false, ◌&&◌, ◌||◌, List, ◌∷◌, Option, None, Some, slice_get, refl, sym, ap, ◌∙◌, subst, arith}
+use Rattle.std.proofs.Common.{◌≡◌, inl, inr, ℕ, ◌<◌, ◌≤◌, Bool, true, false, ◌&&◌, List, ◌∷◌, Option, None, Some, slice_get, refl, sym, ap, ◌∙◌, subst, arith}
 use Rattle.std.specs.Option.{option_and_then}
 use Rattle.std.specs.List.{Contains}
+use Rattle.std.proofs.lemmas.Bool.{or_parts}
 use Rattle.cd_base.specs.declared.place.Place.{Place}
 use Rattle.cd_base.specs.declared.place.Range.{Range}
 use Rattle.cd_base.specs.Words.{in_range}
 use Rattle.cd_tree.specs.declared.domain.NodeId.{NodeId}
-use Rattle.cd_tree.specs.declared.domain.How.{How}
-use Rattle.cd_tree.specs.declared.domain.How.TheVariants.{Copy, Refer, Regen}
 use Rattle.cd_tree.specs.declared.domain.Entry.{Entry}
 use Rattle.cd_tree.specs.declared.domain.Domain.{Domain}
 use Rattle.cd_tree.specs.Domains.{Node, body_of}
@@ -15,7 +14,7 @@ use Rattle.cd_tree.specs.Legal.{entry_at}
 use Rattle.cd_tree.specs.Scripts.{path_of}
 use Rattle.cd_tree.specs.Laws.{NestedViewFollows, ParentsComeFirst, PathsGoDown}
 use Rattle.cd_cover.specs.Laws.{FramesGoUp, FramesEnd}
-use Rattle.cd_cover.specs.Links.{Frame, frame_over, frames_of, holder, link_in, link_of, entry_link, by_way, by_holder, written_before, written_since, stale}
+use Rattle.cd_cover.specs.Links.{Frame, frame_over, frames_of, holder, link_in, link_of, entry_link, by_holder, written_before, written_since, stale}
 use Rattle.cd_cover.specs.Outer.{outer_references}
 use Rattle.cd_cover.specs.Plans.{Planned, IsPlan}
 use Rattle.cd_cover.specs.OuterLaws.{FreshOnTheWay, OuterAreFresh}
@@ -23,11 +22,8 @@ use Rattle.cd_cover.proofs.Downward.{view_in, upward}
 use Rattle.cd_cover.proofs.PathLemmas.{path_cases, path_before, top_on_path}
 use Rattle.cd_cover.proofs.LinkLemmas.{link_by}
 use Rattle.cd_cover.proofs.OuterLemmas.{PlanFacts, plan_facts}
+use Rattle.cd_cover.proofs.OuterWhich.{reference_of}
 use Rattle.cd_cover.proofs.OuterMembers.{OuterParts, outer_parts, link_over, Family, family, view_is}
-
-or_none : (a b : Bool) → (a || b) ≡ false → (a ≡ false) × (b ≡ false)
-or_none true b is = absurd (cc)
-or_none false b is = (refl, is)
 
 and_here : (a b : Bool) → (a && b) ≡ false → a ≡ true → b ≡ false
 and_here true b is here = is
@@ -36,14 +32,14 @@ and_here false b is here = absurd (cc)
 -- what is not written since: not in the nearest domain above, nor, where that has no link, further up
 since_here : (r : Range) (frame : Frame) (frames : List Frame) (p : Place) → written_since r (frame ∷ frames) p ≡ false → frame.before p ≡ false
 since_here r frame frames p none =
-    (or_none (frame.before p)
+    (or_parts (frame.before p)
     (by_holder (holder r 0 frame.entries) (written_since r frames p) (λ at. false) (λ outer. written_since outer frames p)) none).0
 
 since_above : (r : Range) (frame : Frame) (frames : List Frame) (p : Place) → written_since r (frame ∷ frames) p ≡ false
     → holder r 0 frame.entries ≡ None → written_since r frames p ≡ false
 since_above r frame frames p none beyond =
     ap (λ (h : Option (ℕ × Entry)). by_holder h (written_since r frames p) (λ at. false) (λ outer. written_since outer frames p)) (sym beyond)
-    ∙ (or_none (frame.before p)
+    ∙ (or_parts (frame.before p)
     (by_holder (holder r 0 frame.entries) (written_since r frames p) (λ at. false) (λ outer. written_since outer frames p)) none).1
 
 -- a member and its parent on the way from a domain up to a link
@@ -92,13 +88,6 @@ way_left_alone domains links facts r p up k =
                 absurd (omega arith)
           ]
     ])
-
--- an entry with a link is a reference
-reference_of : (how : How) (r : Range) (frames : List Frame) (link : NodeId × ℕ) → by_way how None (λ s. link_in s frames) None r ≡ Some link
-    → (how ≡ Refer) × (link_in r frames ≡ Some link)
-reference_of Copy r frames link is = absurd (cc)
-reference_of Refer r frames link is = (refl, is)
-reference_of (Regen pattern) r frames link is = absurd (cc)
 
 fresh_at : (plan : Planned) → IsPlan plan → PlanFacts plan.tree.domains plan.links → (id up : NodeId) (at k : ℕ) (entry : Entry)
     → entry_at plan.tree.domains id at ≡ Some entry → link_of plan.tree.domains id at ≡ Some (up, k)

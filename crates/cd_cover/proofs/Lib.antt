@@ -24,3 +24,5 @@ pub mod LinksHold
 pub mod AtGroups
 pub mod OuterWalk
 pub mod ThereLemmas
+pub mod OuterAscend
+pub mod RangesRead

@@ -3,6 +3,7 @@ use Rattle.std.proofs.Common.{◌≡◌, ◌⊎◌, inl, inr, ℕ, ◌<◌, ◌�
 use Rattle.std.specs.List.{Contains}
 use Rattle.std.proofs.lemmas.List.Elements.{All-weaker, All-contains_itself}
 use Rattle.std.proofs.lemmas.Bool.{cases_lt}
+use Rattle.std.proofs.lemmas.Option.{same_Some}
 use Rattle.cd_tree.specs.declared.domain.NodeId.{NodeId}
 use Rattle.cd_tree.specs.declared.domain.Domain.{Domain}
 use Rattle.cd_tree.specs.Outlines.{Outline, IsTree}
@@ -14,7 +15,7 @@ use Rattle.cd_cover.specs.Links.{link_of}
 use Rattle.cd_cover.specs.Outer.{outer_references}
 use Rattle.cd_cover.specs.OuterLaws.{LiesAbove, IsOuter, IsChild, LinksTo, OuterOfMembers, OuterLieBelow}
 use Rattle.cd_cover.proofs.Views.{some_of, some_and}
-use Rattle.cd_cover.proofs.Downward.{Known, view_in}
+use Rattle.cd_cover.proofs.Downward.{Known, view_in, same_id}
 use Rattle.cd_cover.proofs.PathLemmas.{InParent, in_own_parent, numbers_through, path_cases, path_before, path_up}
 use Rattle.cd_cover.proofs.OuterLemmas.{PlanFacts, plan_facts}
 use Rattle.cd_cover.proofs.OuterWhich.{outer_exactly}
@@ -53,11 +54,8 @@ link_over domains all id parent domain there is up on before =
           let number : id.0 ≡ up.0 = ap (λ (i : NodeId). i.0) same in
           absurd (omega arith)
       | inr above ↦
-          subst (λ (i : NodeId). Contains (path_of domains i) up) (some_same above.parent parent (sym above.is_parent ∙ is)) above.on_path
+          subst (λ (i : NodeId). Contains (path_of domains i) up) (same_Some above.parent parent (sym above.is_parent ∙ is)) above.on_path
     ]
-  where
-    some_same : (one other : NodeId) → Some one ≡ Some other → one ≡ other
-    some_same one other same = cc
 
 -- a domain and its parent, in the list and in the view
 pub record Family (domains : List Domain) (parent id : NodeId) : Type 0 where
@@ -73,7 +71,7 @@ pub family : (tree : Outline) → IsTree tree → Known tree.domains → (parent
 family tree is all parent id child =
     let here = some_of (slice_get tree.domains id.0) (λ domain. domain.parent ≡ Some parent) child in
     let found : InParent tree.domains id here.0 = in_own_parent tree is all id parent here.0 here.1 here.2 in
-    let same : found.parent ≡ parent = some_same found.parent parent (sym found.is_parent ∙ here.2) in
+    let same : found.parent ≡ parent = same_Some found.parent parent (sym found.is_parent ∙ here.2) in
     record {
       over = found.over;
       over_there = subst (λ (i : NodeId). slice_get tree.domains i.0 ≡ Some found.over) same found.there;
@@ -82,9 +80,6 @@ family tree is all parent id child =
       is_parent = here.2;
       among = subst (λ (i : NodeId). Contains (node_numbers (view_in tree.domains i found.over)) id.0) same found.among;
     }
-  where
-    some_same : (one other : NodeId) → Some one ≡ Some other → one ≡ other
-    some_same one other equal = cc
 
 -- the view of a domain that is there
 pub view_is : (domains : List Domain) → Known domains → (id : NodeId) (domain : Domain) → slice_get domains id.0 ≡ Some domain
@@ -108,9 +103,7 @@ member_or_own domains links facts parent id kin reference among =
           (numbers_through domains facts.all parent kin.over kin.over_there id kin.domain kin.there kin.among reference.0.0 parts.within)
           parts.is on before)
       | inr not ↦
-          let make : ℕ → NodeId = λ k. record { 0 = k } in
-          let number : parts.link.0.0 ≡ parent.0 = omega arith in
-          let here : parts.link.0 ≡ parent = ap make number in
+          let here : parts.link.0 ≡ parent = same_id parts.link.0 parent (omega arith) in
           inl (some_and (link_of domains reference.0 reference.1) (λ link. link.0 ≡ parent) parts.link parts.is here)
     ]
 

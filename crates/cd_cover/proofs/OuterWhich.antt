@@ -1,20 +1,24 @@
 -- Which entries are the outer references of a domain: those of its subtree whose links lie above it.
-use Rattle.std.proofs.Common.{◌≡◌, ◌↔◌, inl, inr, ℕ, zero, suc, ◌+◌, ◌<◌, true, nat_lt, List, [], ◌∷◌, map, Option, None, Some, slice_get, slice_index_or, refl, sym, ap, ◌∙◌, subst, arith}
+use Rattle.std.proofs.Common.{IsSomeAnd, ◌≡◌, ◌↔◌, inl, inr, ℕ, zero, suc, ◌+◌, ◌<◌, true, nat_lt, List, [], ◌∷◌, map, Option, None, Some, slice_get, slice_index_or, refl, sym, ap, ◌∙◌, subst, arith}
 use Rattle.std.specs.Option.{option_and_then, option_map}
 use Rattle.std.specs.List.{Contains, flat_map}
 use Rattle.std.proofs.lemmas.Option.{slice_get-map}
-use Rattle.std.proofs.lemmas.List.Elements.{Contains-append_left, Contains-append_right, Contains-append_cases}
+use Rattle.std.proofs.lemmas.List.Elements.{Contains-append_left, Contains-append_right, Contains-append_cases, All-weaker, All-contains_itself}
 use Rattle.std.proofs.lemmas.Bool.{ltb-true, lt-ltb, cases_Bool}
 use Rattle.cd_tree.specs.declared.domain.NodeId.{NodeId}
+use Rattle.cd_base.specs.declared.place.Range.{Range}
+use Rattle.cd_tree.specs.declared.domain.How.{How}
+use Rattle.cd_tree.specs.declared.domain.How.TheVariants.{Copy, Refer, Regen}
 use Rattle.cd_tree.specs.declared.domain.Entry.{Entry}
 use Rattle.cd_tree.specs.declared.domain.Domain.{Domain}
-use Rattle.cd_tree.specs.Domains.{Node, node_of, node_numbers}
+use Rattle.cd_tree.specs.Domains.{Node, node, node_of, node_numbers}
+use Rattle.cd_tree.specs.Legal.{entry_at}
 use Rattle.cd_tree.specs.Scripts.{path_of}
 use Rattle.cd_tree.specs.Laws.{NestedViewFollows, ParentsComeFirst, PathsGoDown}
 use Rattle.cd_cover.specs.Laws.{FramesGoUp, FramesEnd}
-use Rattle.cd_cover.specs.Links.{frames_of, entry_link, link_of}
+use Rattle.cd_cover.specs.Links.{Frame, frames_of, link_in, by_way, entry_link, link_of}
 use Rattle.cd_cover.specs.Outer.{outer_references}
-use Rattle.cd_cover.specs.OuterLaws.{LiesAbove, IsOuter, OuterAreThese, leads_before, leading_before, leading_of}
+use Rattle.cd_cover.specs.OuterLaws.{LiesAbove, IsOuter, OuterAreThese, OuterAreReferences, leads_before, leading_before, leading_of}
 use Rattle.cd_cover.proofs.Views.{some_of, some_and}
 use Rattle.cd_cover.proofs.Downward.{view_in, domain_behind, contains_first, contains_behind, contains_cases, contains_none}
 use Rattle.cd_cover.proofs.PathLemmas.{path_order, top_on_path}
@@ -206,3 +210,28 @@ outer_exactly domains links facts id d found (below, at) =
 pub outer_are_these : NestedViewFollows → ParentsComeFirst → PathsGoDown → FramesGoUp → FramesEnd → OuterAreThese
 outer_are_these views parents paths goes ends plan is id d found reference =
     outer_exactly plan.tree.domains plan.links (plan_facts views parents paths goes ends plan is) id d found reference
+
+-- ---- each is a reference
+
+-- an entry with a link is a reference
+pub reference_of : (how : How) (r : Range) (frames : List Frame) (link : NodeId × ℕ) → by_way how None (λ s. link_in s frames) None r ≡ Some link
+    → (how ≡ Refer) × (link_in r frames ≡ Some link)
+reference_of Copy r frames link is = absurd (cc)
+reference_of Refer r frames link is = (refl, is)
+reference_of (Regen pattern) r frames link is = absurd (cc)
+
+outer_is_reference : (domains : List Domain) (d : Node) (reference : NodeId × ℕ) → IsOuter domains d reference
+    → IsSomeAnd (entry_at domains reference.0 reference.1) (λ entry. entry.how ≡ Refer)
+outer_is_reference domains (node id domain body) (below, at) outer =
+    let link = some_of (link_of domains below at) (λ l. LiesAbove domains id l.0) outer.1 in
+    let one : Linked domains below at link.0 = link_behind domains below at link.0 link.1 in
+    some_and (entry_at domains below at) (λ entry. entry.how ≡ Refer) one.entry
+    (ap (option_and_then (λ (d : Domain). slice_get d.entries at)) one.there ∙ one.here)
+    (reference_of one.entry.how one.entry.range (frames_of domains below) link.0 one.is).0
+
+pub outer_are_references : OuterAreThese → OuterAreReferences
+outer_are_references these plan is id d found =
+    All-weaker (Contains (outer_references d))
+    (λ reference. IsSomeAnd (entry_at plan.tree.domains reference.0 reference.1) (λ entry. entry.how ≡ Refer))
+    (λ reference among. outer_is_reference plan.tree.domains d reference ((these plan is id d found reference).0 among))
+    (outer_references d) (All-contains_itself (outer_references d))

@@ -2,7 +2,7 @@
 use Rattle.std.proofs.Common.{◌≡◌, ◌⊎◌, inl, inr, ℕ, zero, suc, ◌+◌, ◌<◌, ◌≤◌, List, [], ◌∷◌, ◌++◌, Option, None, Some, length, slice_get, refl, sym, ap, ◌∙◌, subst, arith}
 use Rattle.std.specs.Option.{option_map_or}
 use Rattle.std.specs.List.{Contains}
-use Rattle.std.proofs.lemmas.Option.{slice_get_within}
+use Rattle.std.proofs.lemmas.Option.{slice_get_within, same_Some}
 use Rattle.std.proofs.lemmas.List.Elements.{Contains-append_left, Contains-push, Contains-push_cases}
 use Rattle.cd_tree.specs.declared.domain.NodeId.{NodeId}
 use Rattle.cd_tree.specs.declared.domain.Domain.{Domain}
@@ -12,7 +12,7 @@ use Rattle.cd_tree.specs.Scripts.{path_of}
 use Rattle.cd_cover.proofs.Views.{some_of, domain_here}
 use Rattle.cd_tree.specs.Laws.{NestedViewFollows, ParentsComeFirst, PathsGoDown}
 use Rattle.cd_cover.specs.OuterLaws.{SubtreesByPaths}
-use Rattle.cd_cover.proofs.Downward.{Known, known_of, view_in, domain_behind, IsNamed, downward, upward, contains_first, contains_behind, numbers_cases, numbers_of_child}
+use Rattle.cd_cover.proofs.Downward.{Known, known_of, view_in, domain_behind, same_id, IsNamed, downward, upward, contains_first, contains_behind, numbers_cases, numbers_of_child}
 
 -- a domain on a path that is not its end is on the parent's
 pub record Above (domains : List Domain) (domain : Domain) (up : NodeId) : Type 0 where
@@ -115,14 +115,11 @@ path_order domains all =
                 absurd (omega arith)
             | inr higher ↦
                 let one : above.parent ≡ higher.parent =
-                some_same above.parent higher.parent (sym above.is_parent ∙ higher.is_parent) in
+                same_Some above.parent higher.parent (sym above.is_parent ∙ higher.is_parent) in
                 rest above.parent above.over before above.there between up above.on_path
                 (subst (λ (i : NodeId). Contains (path_of domains i) up) (sym one) higher.on_path) order
           ]
     ])
-  where
-    some_same : (one other : NodeId) → Some one ≡ Some other → one ≡ other
-    some_same one other is = cc
 
 -- ---- subtrees
 
@@ -138,8 +135,7 @@ top_on_path domains all =
     (λ id domain there rest below last here among.
     elim (numbers_cases domains all id domain there below.0 among) [
       | inl same ↦
-          let make : ℕ → NodeId = λ k. record { 0 = k } in
-          let one : id ≡ below = ap make same in
+          let one : id ≡ below = same_id id below same in
           subst (λ (i : NodeId). Contains (path_of domains i) id) one (path_itself domains all id domain there)
       | inr found ↦
           path_through domains all below last here found.id id
@@ -161,8 +157,7 @@ numbers_through domains all =
     (λ id domain there rest between other here among n inside.
     elim (numbers_cases domains all id domain there between.0 among) [
       | inl same ↦
-          let make : ℕ → NodeId = λ k. record { 0 = k } in
-          let one : between ≡ id = ap make (sym same) in
+          let one : between ≡ id = same_id between id (sym same) in
           let found : slice_get domains id.0 ≡ Some other = subst (λ (i : NodeId). slice_get domains i.0 ≡ Some other) one here in
           let both : other ≡ domain = cc in
           let seen : view_in domains between other ≡ view_in domains id domain =
@@ -192,8 +187,7 @@ in_parent domains all =
     (λ id domain there rest below last here among.
     elim (numbers_cases domains all id domain there below.0 among) [
       | inl same ↦
-          let make : ℕ → NodeId = λ k. record { 0 = k } in
-          let one : id ≡ below = ap make same in
+          let one : id ≡ below = same_id id below same in
           inl one
       | inr found ↦
           elim (rest found.id found.child.domain found.child.later found.child.there below last here found.among) [
@@ -229,10 +223,7 @@ root_view [] all domain there = absurd (cc)
 root_view (first ∷ rest) all domain there =
     let found : node_of (first ∷ rest) (record { 0 = 0 }) ≡ Some (view_in (first ∷ rest) (record { 0 = 0 }) domain) =
     all.view (record { 0 = 0 }) domain there in
-    some_same (root_of (first ∷ rest)) (view_in (first ∷ rest) (record { 0 = 0 }) domain) found
-  where
-    some_same : (one other : Node) → Some one ≡ Some other → one ≡ other
-    some_same one other is = cc
+    same_Some (root_of (first ∷ rest)) (view_in (first ∷ rest) (record { 0 = 0 }) domain) found
 
 pub in_own_parent : (tree : Outline) → IsTree tree → Known tree.domains → (id parent : NodeId) (domain : Domain)
     → slice_get tree.domains id.0 ≡ Some domain → domain.parent ≡ Some parent → InParent tree.domains id domain
@@ -261,7 +252,7 @@ pub child_is_named : (tree : Outline) → IsTree tree → Known tree.domains →
     → (over : Domain) → slice_get tree.domains parent.0 ≡ Some over → IsNamed id over.items
 child_is_named tree is all id parent domain there up over over_there =
     let found : InParent tree.domains id domain = in_own_parent tree is all id parent domain there up in
-    let one : found.parent ≡ parent = some_same found.parent parent (sym found.is_parent ∙ up) in
+    let one : found.parent ≡ parent = same_Some found.parent parent (sym found.is_parent ∙ up) in
     let other : slice_get tree.domains parent.0 ≡ Some found.over =
     subst (λ (i : NodeId). slice_get tree.domains i.0 ≡ Some found.over) one found.there in
     let both : found.over ≡ over = cc in
@@ -277,7 +268,7 @@ child_is_named tree is all id parent domain there up over over_there =
           elim (path_cases tree.domains all id domain there below.id on) [
             | inl same ↦ subst (λ (i : NodeId). IsNamed i over.items) (sym same) below.named
             | inr above ↦
-                let parents : above.parent ≡ parent = some_same above.parent parent (sym above.is_parent ∙ up) in
+                let parents : above.parent ≡ parent = same_Some above.parent parent (sym above.is_parent ∙ up) in
                 let low : below.id.0 ≤ above.parent.0 =
                 path_before tree.domains all above.parent above.over above.there below.id above.on_path in
                 let number : above.parent.0 ≡ parent.0 = ap (λ (i : NodeId). i.0) parents in
@@ -285,9 +276,6 @@ child_is_named tree is all id parent domain there up over over_there =
                 absurd (omega arith)
           ]
     ]
-  where
-    some_same : (one other : NodeId) → Some one ≡ Some other → one ≡ other
-    some_same one other is = cc
 
 -- a domain on a path has the path's end in its subtree
 pub end_in_subtree : (tree : Outline) → IsTree tree → Known tree.domains → (below : NodeId) (last : Domain)
@@ -306,7 +294,7 @@ end_in_subtree tree is all =
           subst (Contains (node_numbers (view_in tree.domains id domain))) number (numbers_first tree.domains id domain)
       | inr above ↦
           let found : InParent tree.domains below last = in_own_parent tree is all below above.parent last here above.is_parent in
-          let one : above.parent ≡ found.parent = some_same above.parent found.parent (sym above.is_parent ∙ found.is_parent) in
+          let one : above.parent ≡ found.parent = same_Some above.parent found.parent (sym above.is_parent ∙ found.is_parent) in
           let onward : Contains (path_of tree.domains found.parent) id =
           subst (λ (i : NodeId). Contains (path_of tree.domains i) id) one above.on_path in
           numbers_through tree.domains all id domain there found.parent found.over found.there
@@ -314,9 +302,6 @@ end_in_subtree tree is all =
           below.0 found.among
     ])
   where
-    some_same : (one other : NodeId) → Some one ≡ Some other → one ≡ other
-    some_same one other is = cc
-
     numbers_first : (domains : List Domain) (id : NodeId) (domain : Domain) → Contains (node_numbers (view_in domains id domain)) id.0
     numbers_first domains id domain = (0, omega arith, refl)
 

@@ -1,18 +1,22 @@
 -- A worked program of four levels: which references lead out of each domain, in which order, and how a walk comes to them.
-use Rattle.std.proofs.Common.{◌≡◌, ℕ, List, [], ◌∷◌, map, Option, None, Some, refl}
+use Rattle.std.proofs.Common.{◌≡◌, ℕ, true, false, List, [], ◌∷◌, map, Option, None, Some, refl}
 use Rattle.std.specs.Option.{option_map}
 use Rattle.std.specs.List.{flat_map}
 use Rattle.cd_tree.specs.declared.domain.NodeId.{NodeId}
 use Rattle.cd_tree.specs.declared.domain.Item.TheVariants.{Group}
 use Rattle.cd_tree.specs.declared.domain.Domain.{Domain}
 use Rattle.cd_tree.specs.Outlines.{Outline}
-use Rattle.cd_tree.specs.Domains.{node_of, nodes_from, node_numbers}
+use Rattle.cd_base.specs.Words.{Words}
+use Rattle.cd_tree.specs.Domains.{Node, node_of, nodes_from, node_numbers, body_of, root_of}
+use Rattle.cd_tree.specs.FirstItems.{first_items, waiting_words}
+use Rattle.cd_tree.specs.Meaning.{body_writes}
+use Rattle.cd_cover.specs.Links.{written_before}
 use Rattle.cd_cover.specs.Outer.{outer_references}
 use Rattle.cd_cover.specs.Plans.{links_of}
 use Rattle.cd_cover.specs.PlanLaws.{need_of}
 use Rattle.cd_cover.specs.OuterLaws.{leading_of}
 use Rattle.cd_cover.specs.OuterLeft.{left_at}
-use Rattle.cd_cover.proofs.Worked.{number, part, copied, referred, domain}
+use Rattle.cd_cover.proofs.Worked.{number, part, place, copied, referred, domain, program}
 
 -- the root keeps two ranges; under it domain 1 refers to one of them, domain 2 to what domain 1 refers to, and domain 3 to
 -- what domains 2 and 0 keep; domain 4 stands beside domain 1
@@ -78,3 +82,32 @@ walk_ends = refl
 -- the needs of a chain of domains: two blocks a reference, one a copy
 needs : map (λ (n : ℕ). need_of levels (number n)) (0 ∷ 1 ∷ 2 ∷ 3 ∷ 4 ∷ []) ≡ 15 ∷ 11 ∷ 9 ∷ 6 ∷ 2 ∷ []
 needs = refl
+
+-- ---- words at a group
+
+-- the root of the other worked program fills words 2 and 3 before its group, and word 5 behind it
+abbrev whole : Node
+whole = root_of (program (referred (part 0 4 8) ∷ []) [])
+
+abbrev begun : Words
+begun p = Some p.index
+
+filled_before : waiting_words whole 1 begun (place 0 3) ≡ Some 1
+filled_before = refl
+
+-- the range to which its child refers has the words that the root's copy keeps
+as_begun : waiting_words whole 1 begun (place 0 4) ≡ Some 4
+as_begun = refl
+
+not_yet : waiting_words whole 1 begun (place 0 5) ≡ Some 5
+not_yet = refl
+
+-- what stands before the child's group is the first item
+first_item : written_before 1 (body_of whole) (place 0 3) ≡ body_writes (first_items 1 (body_of whole)) (place 0 3)
+first_item = refl
+
+written_there : written_before 1 (body_of whole) (place 0 3) ≡ true
+written_there = refl
+
+not_behind : written_before 1 (body_of whole) (place 0 5) ≡ false
+not_behind = refl

@@ -5,6 +5,7 @@ use Rattle.std.specs.List.{Contains, flat_map}
 use Rattle.cd_base.specs.declared.place.Place.{Place}
 use Rattle.cd_base.specs.Words.{in_range}
 use Rattle.cd_tree.specs.declared.domain.NodeId.{NodeId}
+use Rattle.cd_tree.specs.declared.domain.How.TheVariants.{Refer}
 use Rattle.cd_tree.specs.declared.domain.Entry.{Entry}
 use Rattle.cd_tree.specs.declared.domain.Domain.{Domain}
 use Rattle.cd_tree.specs.Outlines.{Outline, IsTree}
@@ -12,6 +13,7 @@ use Rattle.cd_tree.specs.Domains.{Node, node, number_of, body_of, node_of, node_
 use Rattle.cd_tree.specs.Laws.{OfEach}
 use Rattle.cd_tree.specs.Scripts.{path_of}
 use Rattle.cd_tree.specs.Legal.{entry_at}
+use Rattle.cd_tree.specs.Meaning.{LieIn, node_reads}
 use Rattle.cd_cover.specs.Links.{link_of, written_before}
 use Rattle.cd_cover.specs.Outer.{outer_references}
 use Rattle.cd_cover.specs.Plans.{Planned, IsPlan}
@@ -23,6 +25,12 @@ abbrev pub SubtreesByPaths : Type 0
 SubtreesByPaths =
     (tree : Outline) → IsTree tree → (id below : NodeId) (d : Node) → node_of tree.domains id ≡ Some d → below.0 < length tree.domains
     → Contains (node_numbers d) below.0 ↔ Contains (path_of tree.domains below) id
+
+-- what any entry of a subtree preserves is read by the domain at its top
+abbrev pub EntriesAreRead : Type 0
+EntriesAreRead =
+    (tree : Outline) → IsTree tree → (id below : NodeId) (d : Node) (at : ℕ) (entry : Entry) → node_of tree.domains id ≡ Some d
+    → Contains (node_numbers d) below.0 → entry_at tree.domains below at ≡ Some entry → LieIn (in_range entry.range) (node_reads d)
 
 -- above a domain: on its path, and before it
 abbrev pub LiesAbove : List Domain → NodeId → NodeId → Type 0
@@ -38,6 +46,25 @@ abbrev pub OuterAreThese : Type 0
 OuterAreThese =
     (plan : Planned) → IsPlan plan
     → OfEach plan.tree (λ d. (reference : NodeId × ℕ) → Contains (outer_references d) reference ↔ IsOuter plan.tree.domains d reference)
+
+-- each is a reference
+abbrev pub OuterAreReferences : Type 0
+OuterAreReferences =
+    (plan : Planned) → IsPlan plan
+    → OfEach plan.tree (λ d. All (λ reference. IsSomeAnd (entry_at plan.tree.domains reference.0 reference.1) (λ entry. entry.how ≡ Refer)) (outer_references d))
+
+-- an entry stands before another: in a domain before, or before it in the same domain
+abbrev pub ComesBefore : NodeId × ℕ → NodeId × ℕ → Type 0
+ComesBefore (id, at) (other, k) = (id.0 < other.0) ⊎ ((id ≡ other) × (at < k))
+
+-- each entry stands before all that follow it
+abbrev pub Ascend : List (NodeId × ℕ) → Type 0
+Ascend [] = Unit {0}
+Ascend (first ∷ rest) = All (ComesBefore first) rest × Ascend rest
+
+-- the outer references of a domain ascend: none stands twice
+abbrev pub OuterAscend : Type 0
+OuterAscend = (plan : Planned) → IsPlan plan → OfEach plan.tree (λ d. Ascend (outer_references d))
 
 -- whether a link leads to a domain that stands before this one
 abbrev pub leads_before : ℕ → Option (NodeId × ℕ) → Bool

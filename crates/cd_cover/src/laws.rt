@@ -1,7 +1,7 @@
 //! The laws of frames, links and flaws, each the contract of a function that does nothing: to call it is to have the law.
 
 ghost use Rattle.cd_cover.specs.Laws.{FramesGoUp, FramesEnd, LinksLead, KindsChangeNoFlaw, FirstFlawIsOne};
-ghost use Rattle.cd_cover.specs.OuterLaws.{SubtreesByPaths, OuterAreThese, OuterInOrder, OuterOfMembers, OuterLieBelow, FreshOnTheWay, OuterAreFresh};
+ghost use Rattle.cd_cover.specs.OuterLaws.{SubtreesByPaths, EntriesAreRead, OuterAreThese, OuterAreReferences, OuterInOrder, OuterAscend, OuterOfMembers, OuterLieBelow, FreshOnTheWay, OuterAreFresh};
 ghost use Rattle.cd_cover.specs.KeptWords.{WrittenByFirstItems, OuterWordsStay, LinksServeMembers};
 ghost use Rattle.cd_cover.specs.PlanLaws.{ReferencesHaveLinks, OnlyReferencesHaveLinks, GroupsNeedWithin, ChildrenNeedWithin};
 ghost use Rattle.cd_cover.specs.There.{FirstFlawIsThere};
@@ -43,23 +43,28 @@ pub fn a_program_has_one_first_flaw()
     ensures { FirstFlawIsOne }
 {}
 
-/// A domain stands in the subtree of another, which is the other and all below it, exactly where the other is on its path.
+/// A domain stands in the subtree of another, which is the other and all below it, exactly where the other is on its path; and
+/// what its entries preserve the other reads.
 pub fn subtrees_are_seen_on_paths()
-    ensures { SubtreesByPaths }
+    ensures paths { SubtreesByPaths }
+    ensures entries { EntriesAreRead }
 {
     laws::the_nested_view_follows_the_list();
     laws::paths_go_from_parent_to_child();
 }
 
-/// The outer references of a domain are the entries of it and of the domains below it whose links lie above it; in order they
-/// stand domain by domain of its subtree in preorder.
+/// The outer references of a domain are the entries of it and of the domains below it whose links lie above it: all of them
+/// references, in order domain by domain of its subtree in preorder, and none twice.
 pub fn outer_references_lead_out()
     ensures these { OuterAreThese }
+    ensures references { OuterAreReferences }
     ensures order { OuterInOrder }
+    ensures ascend { OuterAscend }
 {
     frames_go_up();
     laws::the_nested_view_follows_the_list();
     laws::paths_go_from_parent_to_child();
+    laws::subtrees_are_slices();
 }
 
 /// An outer reference of a domain has its link in the parent or is an outer reference of the parent; and where one of the
