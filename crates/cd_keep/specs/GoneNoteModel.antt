@@ -2,6 +2,6 @@
 use Rattle.std.specs.Prelude.{ℕ}
 
 -- the serial seen and the serial found
-pub record Note : Type 0 where
+pub record GoneNoteModel : Type 0 where
   pub seen : ℕ
   pub found : ℕ
