@@ -17,7 +17,7 @@ use Rattle.cd_app.specs.declared.status.Status.TheVariants.{NoMemory}
 use Rattle.cd_app.specs.Running.{HoldsRun, IsBuilt}
 use Rattle.cd_app.specs.Deeds.{Intake, one_document, Accepted, Deed, makes, says, runs, deed_of, deed_in, intake_of, intake_in}
 use Rattle.cd_app.specs.Outcomes.{Input, whole, too_much, unread, Gave, AcceptsBytes, Outcome, no_command, made, not_read, refused, said, not_built, ran, Runs, ComesOfInput, ComesOf}
-use Rattle.cd_app.specs.Calls.{Call, Comes, Leaves, Ends, TookWithin, ComesToRun, RanOut, Meets}
+use Rattle.cd_app.specs.Calls.{Call, call_of, Comes, Leaves, Ends, TookWithin, ComesToRun, RanOut, Meets}
 use Rattle.cd_app.specs.Parts.{IsRead, IsNone, IsRefusedBy}
 
 -- ---- what the words ask for
@@ -38,8 +38,8 @@ takes_by words deed intake asked is = ap (option_and_then intake_of) asked ∙ i
 
 -- what comes of a deed comes of the words that ask for it
 pub comes_by : (call : Call) (deed : Option Deed) (outcome : Outcome) → deed_in call.words ≡ deed
-    → ComesOf (Gave call.had call.left) deed outcome → Comes call outcome
-comes_by call deed outcome asked comes = subst (λ (d : Option Deed). ComesOf (Gave call.had call.left) d outcome) (sym asked) comes
+    → ComesOf (Gave call.source_was call.source_now) deed outcome → Comes call outcome
+comes_by call deed outcome asked comes = subst (λ (d : Option Deed). ComesOf (Gave call.source_was call.source_now) d outcome) (sym asked) comes
 
 -- ---- outcomes of an input
 
@@ -61,36 +61,36 @@ takes_one (Some (runs intake with_record)) takes = some_intake intake one_docume
 
 -- an outcome that comes of an input, whatever is done with one that is accepted, comes of the call
 of_input : (call : Call) (input : Input) (outcome : Outcome) → intake_in call.words ≡ Some one_document
-    → Gave call.had call.left one_document.limit input
+    → Gave call.source_was call.source_now one_document.limit input
     → ((Next : Accepted → Outcome → Type 0) → ComesOfInput one_document Next input outcome) → Comes call outcome
 of_input call input outcome takes gave anyhow = go (deed_in call.words) (takes_one (deed_in call.words) takes)
   where
-    go : (deed : Option Deed) → TakesOne deed → ComesOf (Gave call.had call.left) deed outcome
+    go : (deed : Option Deed) → TakesOne deed → ComesOf (Gave call.source_was call.source_now) deed outcome
     go None never = absurd never
     go (Some (makes text)) never = absurd never
     go (Some (says intake text_of)) same =
-        subst (λ (i : Intake). ComesOf (Gave call.had call.left) (Some (says i text_of)) outcome) (sym same)
+        subst (λ (i : Intake). ComesOf (Gave call.source_was call.source_now) (Some (says i text_of)) outcome) (sym same)
         (input, gave, anyhow (λ accepted end. end ≡ said (text_of accepted)))
     go (Some (runs intake with_record)) same =
-        subst (λ (i : Intake). ComesOf (Gave call.had call.left) (Some (runs i with_record)) outcome) (sym same)
+        subst (λ (i : Intake). ComesOf (Gave call.source_was call.source_now) (Some (runs i with_record)) outcome) (sym same)
         (input, gave, anyhow (Runs with_record))
 
 -- there is no document
-pub none_refused : (call : Call) (refusal : Refusal) → intake_in call.words ≡ Some one_document → call.now ≡ call.was
-    → IsNone one_document call.had call.left (stop.Refused refusal) → Ends call (refused None refusal)
+pub none_refused : (call : Call) (refusal : Refusal) → intake_in call.words ≡ Some one_document → call.machine_now ≡ call.machine_was
+    → IsNone one_document call.source_was call.source_now (stop.Refused refusal) → Ends call (refused None refusal)
 none_refused call refusal takes now (inl long) =
     (of_input call too_much (refused None refusal) takes long.0 (λ Next. ap (refused None) long.1), now)
 none_refused call refusal takes now (inr (bytes, gave, reads)) =
     (of_input call (whole bytes) (refused None refusal) takes gave (λ Next. inl (None, refusal, reads, refl)), now)
 
 -- the source failed
-pub fault_ends : (call : Call) → intake_in call.words ≡ Some one_document → call.now ≡ call.was
-    → IsNone one_document call.had call.left stop.ReadFault → Ends call not_read
+pub fault_ends : (call : Call) → intake_in call.words ≡ Some one_document → call.machine_now ≡ call.machine_was
+    → IsNone one_document call.source_was call.source_now stop.ReadFault → Ends call not_read
 fault_ends call takes now gave = (of_input call unread not_read takes gave (λ Next. refl), now)
 
 -- a document is refused
 pub document_refused : (call : Call) (document : Document) (refusal : Refusal) → intake_in call.words ≡ Some one_document
-    → call.now ≡ call.was → IsRead one_document call.had call.left document
+    → call.machine_now ≡ call.machine_was → IsRead one_document call.source_was call.source_now document
     → FirstRefusalOf one_document.questions document (Some refusal) → Ends call (refused (Some document) refusal)
 document_refused call document refusal takes now is first = (
   of_input call (whole is.bytes) (refused (Some document) refusal) takes is.gave (λ Next. inl (Some document, refusal, (is.read, first), refl)),
@@ -109,8 +109,8 @@ accepts {old} {new} document script is passes = record { read = is.read; checked
 
 -- something is said of it
 pub said_ends : (call : Call) (text_of : Accepted → List ℕ) (document : Document) (script : List Fault)
-    → deed_in call.words ≡ Some (says one_document text_of) → (is : IsRead one_document call.had call.left document)
-    → Passes document script → call.now ≡ call.was → Ends call (said (text_of (input_of document script is)))
+    → deed_in call.words ≡ Some (says one_document text_of) → (is : IsRead one_document call.source_was call.source_now document)
+    → Passes document script → call.machine_now ≡ call.machine_was → Ends call (said (text_of (input_of document script is)))
 said_ends call text_of document script asked is passes now = (
   comes_by call (Some (says one_document text_of)) (said (text_of (input_of document script is))) asked
       (whole is.bytes, is.gave, inr (input_of document script is, refl, accepts document script is passes, refl)),
@@ -119,8 +119,8 @@ said_ends call text_of document script asked is passes now = (
 
 -- the engine cannot run it as yet
 pub unbuilt_ends : (call : Call) (with_record : Bool) (document : Document) (script : List Fault)
-    → deed_in call.words ≡ Some (runs one_document with_record) → IsRead one_document call.had call.left document
-    → Passes document script → (IsBuilt document.tree → ⊥) → call.now ≡ call.was → Ends call not_built
+    → deed_in call.words ≡ Some (runs one_document with_record) → IsRead one_document call.source_was call.source_now document
+    → Passes document script → (IsBuilt document.tree → ⊥) → call.machine_now ≡ call.machine_was → Ends call not_built
 unbuilt_ends call with_record document script asked is passes unbuilt now = (
   comes_by call (Some (runs one_document with_record)) not_built asked
       (whole is.bytes, is.gave, inr (input_of document script is, refl, accepts document script is passes, inr (unbuilt, refl))),
@@ -129,7 +129,7 @@ unbuilt_ends call with_record document script asked is passes unbuilt now = (
 
 -- it is to run
 run_comes : (call : Call) (with_record : Bool) (document : Document) (script : List Fault)
-    → deed_in call.words ≡ Some (runs one_document with_record) → (is : IsRead one_document call.had call.left document)
+    → deed_in call.words ≡ Some (runs one_document with_record) → (is : IsRead one_document call.source_was call.source_now document)
     → Passes document script → IsBuilt document.tree → Comes call (ran with_record (input_of document script is))
 run_comes call with_record document script asked is passes built =
     comes_by call (Some (runs one_document with_record)) (ran with_record (input_of document script is)) asked
@@ -137,19 +137,19 @@ run_comes call with_record document script asked is passes built =
 
 -- it has run
 pub ran_ends : (call : Call) (with_record : Bool) (document : Document) (script : List Fault)
-    → deed_in call.words ≡ Some (runs one_document with_record) → (is : IsRead one_document call.had call.left document)
-    → Passes document script → IsBuilt document.tree → HoldsRun document script call.now
+    → deed_in call.words ≡ Some (runs one_document with_record) → (is : IsRead one_document call.source_was call.source_now document)
+    → Passes document script → IsBuilt document.tree → HoldsRun document script call.machine_now
     → Ends call (ran with_record (input_of document script is))
 ran_ends call with_record document script asked is passes built holds =
     (run_comes call with_record document script asked is passes built, holds)
 
 -- ---- outcomes without an input
 
-pub usage_ends : (call : Call) → deed_in call.words ≡ None → call.left ≡ call.had → call.now ≡ call.was → Ends call no_command
+pub usage_ends : (call : Call) → deed_in call.words ≡ None → call.source_now ≡ call.source_was → call.machine_now ≡ call.machine_was → Ends call no_command
 usage_ends call asked left now = (comes_by call None no_command asked refl, (left, now))
 
-pub made_ends : (call : Call) (text : List ℕ) → deed_in call.words ≡ Some (makes text) → call.left ≡ call.had
-    → call.now ≡ call.was → Ends call (made text)
+pub made_ends : (call : Call) (text : List ℕ) → deed_in call.words ≡ Some (makes text) → call.source_now ≡ call.source_was
+    → call.machine_now ≡ call.machine_was → Ends call (made text)
 made_ends call text asked left now = (comes_by call (Some (makes text)) (made text) asked refl, (left, now))
 
 -- ---- want of memory
@@ -164,34 +164,34 @@ took_nothing (Some intake) m = ([], (nothing_consumed m.left, omega arith), omeg
 
 -- before anything was read
 pub no_memory_at_once : (words : List (List ℕ)) (source : SourceModel) (m : Machine) (sink : SinkModel)
-    → Meets (record { words = words; had = source; left = source; was = m; now = m }) sink sink NoMemory
+    → Meets (call_of words source source m m) sink sink NoMemory
 no_memory_at_once words source m sink = inl ((took_nothing (intake_in words) source, inl refl), refl)
 
-took_within : (call : Call) → intake_in call.words ≡ Some one_document → TookAtMost call.had call.left one_document.limit
-    → TookWithin (intake_in call.words) call.had call.left
-took_within call takes took = subst (λ (i : Option Intake). TookWithin i call.had call.left) (sym takes) took
+took_within : (call : Call) → intake_in call.words ≡ Some one_document → TookAtMost call.source_was call.source_now one_document.limit
+    → TookWithin (intake_in call.words) call.source_was call.source_now
+took_within call takes took = subst (λ (i : Option Intake). TookWithin i call.source_was call.source_now) (sym takes) took
 
 -- before the machine was touched
-pub no_memory_yet : (call : Call) (sink : SinkModel) → intake_in call.words ≡ Some one_document → call.now ≡ call.was
-    → TookAtMost call.had call.left one_document.limit → Meets call sink sink NoMemory
+pub no_memory_yet : (call : Call) (sink : SinkModel) → intake_in call.words ≡ Some one_document → call.machine_now ≡ call.machine_was
+    → TookAtMost call.source_was call.source_now one_document.limit → Meets call sink sink NoMemory
 no_memory_yet call sink takes now took = inl ((took_within call takes took, inl now), refl)
 
 took_of : (old new : SourceModel) (document : Document) → IsRead one_document old new document → TookAtMost old new one_document.limit
 took_of old new document is = (is.bytes, is.gave.0, is.gave.2)
 
 pub no_memory_for : (call : Call) (sink : SinkModel) (document : Document) → intake_in call.words ≡ Some one_document
-    → call.now ≡ call.was → IsRead one_document call.had call.left document → Meets call sink sink NoMemory
-no_memory_for call sink document takes now is = no_memory_yet call sink takes now (took_of call.had call.left document is)
+    → call.machine_now ≡ call.machine_was → IsRead one_document call.source_was call.source_now document → Meets call sink sink NoMemory
+no_memory_for call sink document takes now is = no_memory_yet call sink takes now (took_of call.source_was call.source_now document is)
 
 -- in a run
 pub no_memory_in_run : (call : Call) (sink : SinkModel) (with_record : Bool) (document : Document) (script : List Fault)
-    → deed_in call.words ≡ Some (runs one_document with_record) → IsRead one_document call.had call.left document
+    → deed_in call.words ≡ Some (runs one_document with_record) → IsRead one_document call.source_was call.source_now document
     → Passes document script → IsBuilt document.tree → Meets call sink sink NoMemory
 no_memory_in_run call sink with_record document script asked is passes built =
     let takes : intake_in call.words ≡ Some one_document = takes_by call.words (runs one_document with_record) one_document asked refl in
     inl (
       (
-        took_within call takes (took_of call.had call.left document is),
+        took_within call takes (took_of call.source_was call.source_now document is),
         inr (with_record, input_of document script is, run_comes call with_record document script asked is passes built),
       ),
       refl,

@@ -65,12 +65,12 @@ serves_it : (intakes : Option Intake) (had left : SourceModel) (bytes : List ℕ
 serves_it None had left bytes serves intake is = cc
 serves_it (Some other) had left bytes serves intake is = serves
 
-ends_due : (call : Call) (bytes : List ℕ) (outcome : Outcome) → ServesFor (intake_in call.words) call.had call.left bytes
+ends_due : (call : Call) (bytes : List ℕ) (outcome : Outcome) → ServesFor (intake_in call.words) call.source_was call.source_now bytes
     → Ends call outcome → IsDue call.words bytes outcome
 ends_due call bytes outcome serves ends =
-    by_account (Gave call.had call.left) (AreInput bytes) (deed_in call.words) outcome
+    by_account (Gave call.source_was call.source_now) (AreInput bytes) (deed_in call.words) outcome
     (λ intake takes input gave.
-    input_known call.had call.left bytes (serves_it (intake_in call.words) call.had call.left bytes serves intake takes) intake.limit input gave)
+    input_known call.source_was call.source_now bytes (serves_it (intake_in call.words) call.source_was call.source_now bytes serves intake takes) intake.limit input gave)
     ends.0
 
 -- ---- where the sink does not fail, the text is whole

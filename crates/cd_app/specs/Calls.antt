@@ -11,24 +11,25 @@ use Rattle.cd_app.specs.Outcomes.{Gave, Outcome, no_command, made, not_read, ref
 -- a call as it is seen from outside: the command's words, the source before and after, and the machine before and after
 pub record Call : Type 0 where
   pub words : List (List ℕ)
-  pub had : SourceModel
-  pub left : SourceModel
-  pub was : Machine
-  pub now : Machine
+  pub source_was : SourceModel
+  pub source_now : SourceModel
+  pub machine_was : Machine
+  pub machine_now : Machine
 
 abbrev pub call_of : List (List ℕ) → SourceModel → SourceModel → Machine → Machine → Call
-call_of words had left was now = record { words = words; had = had; left = left; was = was; now = now }
+call_of words source_was source_now machine_was machine_now =
+    record { words = words; source_was = source_was; source_now = source_now; machine_was = machine_was; machine_now = machine_now }
 
 -- this comes of the call's words and of what the source gave
 abbrev pub Comes : Call → Outcome → Type 0
-Comes call outcome = ComesOf (Gave call.had call.left) (deed_in call.words) outcome
+Comes call outcome = ComesOf (Gave call.source_was call.source_now) (deed_in call.words) outcome
 
 -- what an outcome leaves: the source as it was, where no input is taken; the machine as it was, or with the run on it
 abbrev pub Leaves : Call → Outcome → Type 0
-Leaves call no_command = (call.left ≡ call.had) × (call.now ≡ call.was)
-Leaves call (made text) = (call.left ≡ call.had) × (call.now ≡ call.was)
-Leaves call (ran with_record input) = HoldsRun input.document input.script call.now
-Leaves call _ = call.now ≡ call.was
+Leaves call no_command = (call.source_now ≡ call.source_was) × (call.machine_now ≡ call.machine_was)
+Leaves call (made text) = (call.source_now ≡ call.source_was) × (call.machine_now ≡ call.machine_was)
+Leaves call (ran with_record input) = HoldsRun input.document input.script call.machine_now
+Leaves call _ = call.machine_now ≡ call.machine_was
 
 -- the call came to this
 abbrev pub Ends : Call → Outcome → Type 0
@@ -73,7 +74,7 @@ ComesToRun call = (with_record : Bool) × (input : Accepted) × Comes call (ran 
 -- memory ran out before there was a text to write: no more was taken than the command may take, and the machine is as it
 -- was unless the document came to run
 abbrev pub RanOut : Call → Type 0
-RanOut call = TookWithin (intake_in call.words) call.had call.left × ((call.now ≡ call.was) ⊎ ComesToRun call)
+RanOut call = TookWithin (intake_in call.words) call.source_was call.source_now × ((call.machine_now ≡ call.machine_was) ⊎ ComesToRun call)
 
 -- ---- calls
 

@@ -39,11 +39,11 @@ Gives call old new status outcome = Ends call outcome × (status_of outcome ≡ 
 abbrev pub OutcomeIsGiven : Type 0
 OutcomeIsGiven =
     (call : Call) (old new : SinkModel) (bytes : List ℕ) (status : Status) → Meets call old new status
-    → ServesFor (intake_in call.words) call.had call.left bytes → (Rose old.faults new.faults → ⊥)
+    → ServesFor (intake_in call.words) call.source_was call.source_now bytes → (Rose old.faults new.faults → ⊥)
     → (status ≡ NoMemory) ⊎ ((outcome : Outcome) × IsDue call.words bytes outcome × Gives call old new status outcome)
 
 -- no count of faults falls
 abbrev pub CountsDoNotFall : Type 0
 CountsDoNotFall =
     (call : Call) (old new : SinkModel) (status : Status) → Meets call old new status
-    → (call.had.faults ≤ call.left.faults) × (old.faults ≤ new.faults)
+    → (call.source_was.faults ≤ call.source_now.faults) × (old.faults ≤ new.faults)

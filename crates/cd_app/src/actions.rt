@@ -63,7 +63,7 @@ fn judge<K: Sink, F: Field>(
     machine: &mut F,
 ) -> Status
     requires { WellRead document.now }
-    ensures { (call : Call) → deed_in call.words ≡ Some (deed_for action) → IsRead one_document call.had call.left document.now → call.was ≡ F.state machine.old → call.now ≡ F.state machine.new → Meets call (K.model sink.old) (K.model sink.new) result }
+    ensures { (call : Call) → deed_in call.words ≡ Some (deed_for action) → IsRead one_document call.source_was call.source_now document.now → call.machine_was ≡ F.state machine.old → call.machine_now ≡ F.state machine.new → Meets call (K.model sink.old) (K.model sink.new) result }
 {
     match Footprints::of(alloc, &document.tree) {
         Ok(feet) => match check(alloc, document, &feet) {
@@ -85,7 +85,7 @@ fn perform<K: Sink, F: Field>(
     machine: &mut F,
 ) -> Status
     requires { IsPassed document.now plan.now script.now }
-    ensures { (call : Call) → deed_in call.words ≡ Some (deed_for action) → IsRead one_document call.had call.left document.now → call.was ≡ F.state machine.old → call.now ≡ F.state machine.new → Meets call (K.model sink.old) (K.model sink.new) result }
+    ensures { (call : Call) → deed_in call.words ≡ Some (deed_for action) → IsRead one_document call.source_was call.source_now document.now → call.machine_was ≡ F.state machine.old → call.machine_now ≡ F.state machine.new → Meets call (K.model sink.old) (K.model sink.new) result }
 {
     match action {
         Action::Check => settled(write_check(alloc, document, plan, sink), Status::Done),

@@ -33,7 +33,7 @@ pub(crate) fn run_document<K: Sink, F: Field>(
     machine: &mut F,
 ) -> Status
     requires { IsPassed document.now plan.now script.now }
-    ensures { (call : Call) → deed_in call.words ≡ Some (runs one_document with_record) → IsRead one_document call.had call.left document.now → call.was ≡ F.state machine.old → call.now ≡ F.state machine.new → Meets call (K.model sink.old) (K.model sink.new) result }
+    ensures { (call : Call) → deed_in call.words ≡ Some (runs one_document with_record) → IsRead one_document call.source_was call.source_now document.now → call.machine_was ≡ F.state machine.old → call.machine_now ≡ F.state machine.new → Meets call (K.model sink.old) (K.model sink.new) result }
 {
     if !is_built(&document.tree) {
         return settled(write_not_built(sink), Status::NotBuilt);

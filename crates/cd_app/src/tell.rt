@@ -13,7 +13,7 @@ use std::alloc::Global;
 
 // Writes why there is no document.
 pub(crate) fn tell<K: Sink>(alloc: Global, stop: Stop, sink: &mut K) -> Status
-    ensures { (call : Call) → intake_in call.words ≡ Some one_document → call.now ≡ call.was → IsNone one_document call.had call.left stop → Meets call (K.model sink.old) (K.model sink.new) result }
+    ensures { (call : Call) → intake_in call.words ≡ Some one_document → call.machine_now ≡ call.machine_was → IsNone one_document call.source_was call.source_now stop → Meets call (K.model sink.old) (K.model sink.new) result }
 {
     match stop {
         Stop::Refused(refusal) => {
@@ -32,7 +32,7 @@ pub(crate) fn tell_of<K: Sink>(
     refuse: Refuse,
     sink: &mut K,
 ) -> Status
-    ensures { (call : Call) → intake_in call.words ≡ Some one_document → call.now ≡ call.was → IsRead one_document call.had call.left document.now → IsRefusedBy one_document document.now refuse → Meets call (K.model sink.old) (K.model sink.new) result }
+    ensures { (call : Call) → intake_in call.words ≡ Some one_document → call.machine_now ≡ call.machine_was → IsRead one_document call.source_was call.source_now document.now → IsRefusedBy one_document document.now refuse → Meets call (K.model sink.old) (K.model sink.new) result }
 {
     match refuse {
         Refuse::Refused(refusal) => {
