@@ -18,9 +18,8 @@ use cd_command::{Command, Words, command_of};
 use cd_core::run_one;
 use cd_field::Field;
 use cd_parse::laws::a_document_is_well_read;
-use cd_reading::halting;
 use cd_report::{write_not_built, write_run};
-use cd_tree::{Begins, Cause, Document, Entry, How, NodeId, Tree, laws};
+use cd_tree::{Begins, Cause, Document, Entry, How, NodeId, Tree, halting, laws};
 use std::alloc::Global;
 
 /// Does what the words say. `run` reads a document from the source, runs it on the machine, and writes the report to the
