@@ -17,9 +17,8 @@ use cd_base::{NoMemory, Sink, WriteStop};
 use cd_core::run_one;
 use cd_cover::Plan;
 use cd_field::Field;
-use cd_reading::halting;
 use cd_report::{write_not_built, write_run};
-use cd_tree::{Begins, Cause, Document, Entry, How, NodeId, Script, Tree, laws};
+use cd_tree::{Begins, Cause, Document, Entry, How, NodeId, Script, Tree, halting, laws};
 use std::alloc::Global;
 
 // Runs a document that the checks pass, if the engine can.

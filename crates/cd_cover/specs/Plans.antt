@@ -4,6 +4,7 @@ use Rattle.cd_tree.specs.declared.domain.NodeId.{NodeId}
 use Rattle.cd_tree.specs.declared.domain.How.TheVariants.{Refer}
 use Rattle.cd_tree.specs.declared.domain.Entry.{Entry}
 use Rattle.cd_tree.specs.Outlines.{Outline, IsTree}
+use Rattle.cd_tree.specs.Limits.{need_limit}
 use Rattle.cd_tree.specs.Domains.{Node, node, nodes_from, root_of}
 use Rattle.cd_tree.specs.Meaning.{IsDisjoint, IsCovered, node_need}
 use Rattle.cd_tree.specs.Legal.{entry_at}
@@ -37,4 +38,4 @@ pub record IsPlan (plan : Planned) : Type 0 where
   pub linked : HasFreshLinks plan.tree
   pub link : plan.links ≡ map (links_of plan.tree) (nodes_from 0 plan.tree.domains)
   pub need : plan.needs ≡ map node_need (nodes_from 0 plan.tree.domains)
-  pub within : node_need (root_of plan.tree.domains) ≤ 65536
+  pub within : node_need (root_of plan.tree.domains) ≤ need_limit

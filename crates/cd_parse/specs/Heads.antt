@@ -4,6 +4,7 @@ use Rattle.std.specs.Str.{bytes_eq}
 use Rattle.cd_base.specs.declared.place.Place.{Place}
 use Rattle.cd_base.specs.declared.place.Range.{Range}
 use Rattle.cd_base.specs.declared.pattern.Pattern.{Pattern}
+use Rattle.cd_tree.specs.Limits.{name_limit, kinds_limit, words_limit, regions_limit, items_limit, members_limit, retry_limit, domains_limit, depth_limit, entries_limit, preserves_limit, faults_limit}
 use Rattle.cd_tree.specs.declared.document.Region.{Region}
 use Rattle.cd_tree.specs.declared.document.RawFault.{RawFault}
 use Rattle.cd_tree.specs.declared.domain.NodeId.{NodeId}
@@ -26,7 +27,7 @@ use Rattle.cd_parse.specs.Draft.{Draft, is_start, takes_kinds, takes_regions, ta
 use Rattle.cd_parse.specs.Ranges.{range_in, place_in}
 
 abbrev pub name_fits : List ℕ → Result (Unit {0}) Wrong
-name_fits name = guard (nat_le (length name) 32) (Limit which.Name (length name))
+name_fits name = guard (nat_le (length name) name_limit) (Limit which.Name (length name))
 
 -- ---- cd
 
@@ -53,7 +54,7 @@ with_kind_named draft name halts =
     all_hold
     (guard (not (has_kind_named draft.kinds name)) Taken
     ∷ name_fits name
-    ∷ room which.Kinds 16 (length draft.kinds)
+    ∷ room which.Kinds kinds_limit (length draft.kinds)
     ∷ [])
     >>= λ _. Ok (record draft { kinds = draft.kinds ++ kind_name name halts ∷ [] })
 
@@ -65,9 +66,9 @@ kind_in draft _ = Err Form
 
 -- ---- region
 
--- the words of all regions are at most 1,048,576; a sum beyond 64 bits is told as the largest number
+-- the words of all regions are at most so many; a sum beyond 64 bits is told as the largest number
 abbrev pub words_fit : ℕ → Result (Unit {0}) Wrong
-words_fit sum = guard (nat_le sum 1048576) (Limit which.Words (min sum (2 ^ 64 - 1)))
+words_fit sum = guard (nat_le sum words_limit) (Limit which.Words (min sum (2 ^ 64 - 1)))
 
 abbrev pub region_of : List ℕ → ℕ → Pattern → Region
 region_of name size pattern = record { name = name; length = size; pattern = pattern }
@@ -78,7 +79,7 @@ with_region draft name size pattern =
     (guard (not (has_region_named draft.regions name)) Taken
     ∷ guard (nat_lt 0 size) Unfit
     ∷ name_fits name
-    ∷ room which.Regions 64 (length draft.regions)
+    ∷ room which.Regions regions_limit (length draft.regions)
     ∷ words_fit (draft.words + size)
     ∷ [])
     >>= λ _. Ok (record draft { stage = Regions; regions = draft.regions ++ region_of name size pattern ∷ []; words = draft.words + size })
@@ -97,8 +98,8 @@ region_statement variables draft _ = Err Form
 
 -- a domain is an item of its parent, or a member of the group that is open there
 abbrev pub room_in : Option (List NodeId) → ℕ → Result (Unit {0}) Wrong
-room_in None items = room which.Items 16384 items
-room_in (Some members) items = room which.Members 256 (length members)
+room_in None items = room which.Items items_limit items
+room_in (Some members) items = room which.Members members_limit (length members)
 
 abbrev pub room_for_domain : List Level → ℕ → Result (Unit {0}) Wrong
 room_for_domain [] items = Ok tt
@@ -109,17 +110,17 @@ domain_named name parent tries kinds =
     record { name = name; parent = parent; retry = tries; detects = kinds; entries = []; items = [] }
 
 abbrev pub retry_fits : ℕ → Result (Unit {0}) Wrong
-retry_fits tries = guard (nat_lt 0 tries && nat_le tries 100) (Limit which.Retry tries)
+retry_fits tries = guard (nat_lt 0 tries && nat_le tries retry_limit) (Limit which.Retry tries)
 
 unfoldable pub with_domain : Draft → List ℕ → ℕ → ℕ → Result Draft Wrong
 with_domain draft name tries kinds =
     all_hold
     (guard (not (has_child_named draft.domains (parent_of draft.levels) name)) Taken
     ∷ name_fits name
-    ∷ room which.Domains 2048 (length draft.domains)
-    ∷ room which.Depth 16 (length draft.levels)
+    ∷ room which.Domains domains_limit (length draft.domains)
+    ∷ room which.Depth depth_limit (length draft.levels)
     ∷ room_for_domain draft.levels draft.items
-    ∷ guard (nat_lt 0 tries && nat_le tries 100) (Limit which.Retry tries)
+    ∷ guard (nat_lt 0 tries && nat_le tries retry_limit) (Limit which.Retry tries)
     ∷ [])
     >>= λ _. Ok (add_domain (domain_named name (parent_of draft.levels) tries kinds) draft)
 
@@ -150,8 +151,8 @@ entry_of range how = record { range = range; how = how }
 unfoldable pub with_entry_of : Draft → Range → How → Result Draft Wrong
 with_entry_of draft range how =
     all_hold
-    (room which.Entries 64 (entries_of (slice_get draft.domains (innermost draft.levels)))
-    ∷ room which.Preserves 16384 draft.preserves
+    (room which.Entries entries_limit (entries_of (slice_get draft.domains (innermost draft.levels)))
+    ∷ room which.Preserves preserves_limit draft.preserves
     ∷ [])
     >>= λ _. Ok (add_entry (innermost draft.levels) (entry_of range how) draft)
 
@@ -183,7 +184,7 @@ preserve_in variables draft _ = Err Form
 -- group
 unfoldable pub group_in : Draft → List (List ℕ) → Result Draft Wrong
 group_in draft [] =
-    all_hold (guard (takes_items draft.levels) Form ∷ room which.Items 16384 draft.items ∷ [])
+    all_hold (guard (takes_items draft.levels) Form ∷ room which.Items items_limit draft.items ∷ [])
     >>= λ _. Ok (open_group draft.levels draft)
 group_in draft _ = Err Form
 
@@ -215,7 +216,7 @@ fault_of path begin point kind place mask =
 
 abbrev pub with_fault : Draft → RawFault → Result Draft Wrong
 with_fault draft fault =
-    room which.Faults 256 (length draft.faults) >>= λ _. Ok (record draft { faults = draft.faults ++ fault ∷ [] })
+    room which.Faults faults_limit (length draft.faults) >>= λ _. Ok (record draft { faults = draft.faults ++ fault ∷ [] })
 
 -- begin and point
 unfoldable pub time_in : List Variable → List ℕ → List ℕ → Result (ℕ × ℕ) Wrong

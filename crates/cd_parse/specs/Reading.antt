@@ -3,6 +3,7 @@
 use Rattle.std.specs.Prelude.{ℕ, zero, suc, ◌+◌, ◌-◌, Bool, ◌&&◌, not, nat_lt, List, [], ◌∷◌, ◌++◌, length, Result, Ok, Err, codes, if◌then◌else◌}
 use Rattle.std.specs.List.{list_any}
 use Rattle.std.specs.Str.{bytes_eq}
+use Rattle.cd_tree.specs.Limits.{lines_limit, nesting_limit}
 use Rattle.cd_tree.specs.declared.document.Document.{Document}
 use Rattle.cd_tree.specs.declared.refusal.Refusal.{Refusal}
 use Rattle.cd_tree.specs.declared.refusal.Refusal.TheVariants as refusal
@@ -21,9 +22,9 @@ use Rattle.cd_parse.specs.Statements.{statement_in}
 -- each statement and each turn of a loop counts one, before it is looked at
 abbrev pub counted : Draft → Result Draft Refusal
 counted draft =
-    if nat_lt draft.lines 65536
+    if nat_lt draft.lines lines_limit
     then Ok (record draft { lines = draft.lines + 1 })
-    else Err (refusal.Limit Lines 65537)
+    else Err (refusal.Limit Lines (lines_limit + 1))
 
 -- a statement, at its line
 unfoldable pub taken : List Variable → Line → Draft → Result Draft Refusal
@@ -43,16 +44,16 @@ pub record Loop : Type 0 where
 abbrev pub loop_of : List ℕ → ℕ × ℕ → Loop
 loop_of variable bounds = record { variable = variable; low = bounds.0; high = bounds.1 }
 
--- the variable is no other's, and at most 15 loops stand around
+-- the variable is no other's, and not too many loops stand around
 abbrev pub loop_limits : List Variable → List ℕ → Result (Unit {0} × Unit {0}) Wrong
 loop_limits variables variable =
-    both (guard (not (is_variable variables variable)) Taken) (room Nesting 16 (length variables))
+    both (guard (not (is_variable variables variable)) Taken) (room Nesting nesting_limit (length variables))
 
 -- the bounds among the parts of a loop's line
 abbrev pub bounds_part : Result (Unit {0} × ((ℕ × ℕ) × (Unit {0} × Unit {0}))) Wrong → Result (ℕ × ℕ) Wrong
 bounds_part parts = parts >>= λ p. Ok p.1.0
 
--- the bounds of a loop, within at most 15 other loops that have other variables
+-- the bounds of a loop, within not too many other loops that have other variables
 abbrev pub loop_bounds : List Variable → List ℕ → List ℕ → List ℕ → Result (ℕ × ℕ) Wrong
 loop_bounds variables variable among numbers =
     bounds_part

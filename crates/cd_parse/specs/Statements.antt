@@ -1,6 +1,7 @@
 -- Statements: an operation adds an item; every other by its first word.
 use Rattle.std.specs.Prelude.{ℕ, List, [], ◌∷◌, Result, Ok, Err, codes, if◌then◌else◌}
 use Rattle.std.specs.Str.{bytes_eq}
+use Rattle.cd_tree.specs.Limits.{items_limit}
 use Rattle.cd_tree.specs.declared.domain.Item.TheVariants.{Run}
 use Rattle.cd_tree.specs.declared.operation.Op.{Op}
 use Rattle.cd_tree.specs.declared.refusal.Which.TheVariants.{Items}
@@ -14,7 +15,7 @@ use Rattle.cd_parse.specs.Heads.{cd_in, kind_in, region_statement, domain_in, pr
 
 unfoldable pub with_op : Draft → Op → Result Draft Wrong
 with_op draft op =
-    all_hold (guard (fits op) Unfit ∷ room Items 16384 draft.items ∷ [])
+    all_hold (guard (fits op) Unfit ∷ room Items items_limit draft.items ∷ [])
     >>= λ _. Ok (add_item (innermost draft.levels) (Run op) draft)
 
 -- an operation, in a domain's body; a name that no operation has is of no statement

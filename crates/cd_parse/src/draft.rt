@@ -5,7 +5,9 @@ ghost use Rattle.cd_parse.specs.Heads.{entries_of, room_in, room_for_domain, end
 ghost use Rattle.cd_parse.specs.Reading.{counted};
 
 use cd_base::{Items, NoMemory};
-use cd_tree::{Domain, Entry, Item, KindName, NodeId, RawScript, Refusal, Refuse, Regions, Which};
+use cd_tree::{
+    Domain, Entry, Item, KindName, NodeId, RawScript, Refusal, Refuse, Regions, Which, limits,
+};
 use cd_words::{Stop, Wrong, room};
 use std::alloc::Global;
 use std::marker::Model;
@@ -127,11 +129,11 @@ impl Builder {
     pub(crate) fn count(&mut self) -> Result<(), Refuse>
         ensures { Reads self.new result (counted self.old) }
     {
-        if self.lines < 65_536 {
+        if self.lines < limits::MOST_LINES {
             self.lines += 1;
             Ok(())
         } else {
-            Err(Refuse::Refused(Refusal::Limit(Which::Lines, 65_537)))
+            Err(Refuse::Refused(Refusal::Limit(Which::Lines, u64::from(limits::MOST_LINES) + 1)))
         }
     }
 }
@@ -381,8 +383,8 @@ fn room_in(group: &Option<Items<NodeId>>, items: u32) -> Result<(), Wrong>
     ensures { result ≡ room_in group.now items }
 {
     match group {
-        None => room(Which::Items, 16_384, items as usize),
-        Some(members) => room(Which::Members, 256, members.items().len()),
+        None => room(Which::Items, limits::MOST_ITEMS, items as usize),
+        Some(members) => room(Which::Members, limits::MOST_MEMBERS, members.items().len()),
     }
 }
 

@@ -13,7 +13,7 @@ use crate::operations::{fits, op_in};
 use crate::ranges::{place_in, range_in};
 use cd_base::{Bytes, Items, NoMemory, Pattern, Place, Range, Text};
 use cd_tree::{
-    Domain, Entry, How, Item, Kind, KindName, Kinds, NodeId, Op, RawFault, Region, Which,
+    Domain, Entry, How, Item, Kind, KindName, Kinds, NodeId, Op, RawFault, Region, Which, limits,
 };
 use cd_words::{
     Stop, Variable, Wrong, all_hold, both, expression, guard, is_base, kind, kind_set, name, path,
@@ -25,7 +25,7 @@ fn name_fits(name: &[u8]) -> Result<(), Wrong>
     ensures { result ≡ name_fits name.now }
 {
     guard(
-        name.len() <= 32,
+        name.len() <= limits::MOST_NAME,
         Wrong::Limit(Which::Name, name.len() as u64),
     )
 }
@@ -175,8 +175,12 @@ fn add_entry(draft: &mut Builder, range: Range, how: How) -> Result<(), Stop>
     ensures { Steps draft.new result (with_entry_of draft.old range how) }
 {
     let at = draft.innermost();
-    let entries = room(Which::Entries, 64, draft.entries_at(at));
-    let preserves = room(Which::Preserves, 16_384, draft.preserves as usize);
+    let entries = room(Which::Entries, limits::MOST_ENTRIES, draft.entries_at(at));
+    let preserves = room(
+        Which::Preserves,
+        limits::MOST_PRESERVES,
+        draft.preserves as usize,
+    );
     all_hold(&[entries, preserves])?;
     draft.add_entry(at, Entry { range, how })?;
     Ok(())
@@ -233,7 +237,7 @@ fn add_kind(alloc: Global, draft: &mut Builder, word: &[u8], halts: bool) -> Res
         return Err(Stop::Wrong(Wrong::Form));
     }
     let free = guard(!has_kind_named(draft.kinds.items(), word), Wrong::Taken);
-    let count = room(Which::Kinds, 16, draft.kinds.items().len());
+    let count = room(Which::Kinds, limits::MOST_KINDS, draft.kinds.items().len());
     all_hold(&[free, name_fits(word), count])?;
     let name = text_of(alloc, word)?;
     push_last(&mut draft.kinds, KindName { name, halts })?;
@@ -255,7 +259,7 @@ fn words_fit(words: u64, size: u64) -> Result<(), Wrong>
 {
     let sum = u128::from(words) + u128::from(size);
     let told = sum.min(18_446_744_073_709_551_615) as u64;
-    guard(sum <= 1_048_576, Wrong::Limit(Which::Words, told))
+    guard(sum <= limits::MOST_WORDS, Wrong::Limit(Which::Words, told))
 }
 
 // region NAME E PATTERN
@@ -301,7 +305,11 @@ fn add_region(draft: &mut Builder, named: Text, size: u64, pattern: Pattern) -> 
     let word = named.as_str().as_bytes();
     let free = guard(!has_region_named(draft.regions.items(), word), Wrong::Taken);
     let some = guard(0 < size, Wrong::Unfit);
-    let count = room(Which::Regions, 64, draft.regions.items().len());
+    let count = room(
+        Which::Regions,
+        limits::MOST_REGIONS,
+        draft.regions.items().len(),
+    );
     let sum = words_fit(draft.words, size);
     all_hold(&[free, some, name_fits(word), count, sum])?;
     put_region(draft, named, size, pattern)?;
@@ -408,7 +416,11 @@ fn add_strike(
 fn add_fault(draft: &mut Builder, fault: RawFault) -> Result<(), Stop>
     ensures { Steps draft.new result (with_fault draft.old fault) }
 {
-    room(Which::Faults, 256, draft.faults.items().len())?;
+    room(
+        Which::Faults,
+        limits::MOST_FAULTS,
+        draft.faults.items().len(),
+    )?;
     push_last(&mut draft.faults, fault)?;
     Ok(())
 }
@@ -420,7 +432,7 @@ fn add_op(draft: &mut Builder, op: Op) -> Result<(), Stop>
     ensures { Steps draft.new result (with_op draft.old op) }
 {
     let fit = guard(fits(&op), Wrong::Unfit);
-    let count = room(Which::Items, 16_384, draft.items as usize);
+    let count = room(Which::Items, limits::MOST_ITEMS, draft.items as usize);
     all_hold(&[fit, count])?;
     let at = draft.innermost();
     draft.add_item(at, Item::Run(op))?;
@@ -453,7 +465,7 @@ pub(crate) fn group(alloc: Global, draft: &mut Builder, words: &[Bytes]) -> Resu
     match words {
         [] => {
             let stage = guard(draft.takes_items(), Wrong::Form);
-            let count = room(Which::Items, 16_384, draft.items as usize);
+            let count = room(Which::Items, limits::MOST_ITEMS, draft.items as usize);
             all_hold(&[stage, count])?;
             draft.open_group(alloc)?;
             Ok(())
@@ -548,7 +560,10 @@ fn domain_of(
 fn retry_fits(tries: u64) -> Result<(), Wrong>
     ensures { result ≡ retry_fits tries }
 {
-    guard(0 < tries && tries <= 100, Wrong::Limit(Which::Retry, tries))
+    guard(
+        0 < tries && tries <= u64::from(limits::MOST_RETRY),
+        Wrong::Limit(Which::Retry, tries),
+    )
 }
 
 #[tactic(auto, unfolding(crate::specs::Heads::with_domain))]
@@ -565,8 +580,12 @@ fn add_domain(
     let parent = draft.parent();
     let taken = has_child_named(draft.domains.as_slice(), parent, word);
     let free = guard(!taken, Wrong::Taken);
-    let count = room(Which::Domains, 2_048, draft.domains.len());
-    let depth = room(Which::Depth, 16, draft.levels.len());
+    let count = room(Which::Domains, limits::MOST_DOMAINS, draft.domains.len());
+    let depth = room(
+        Which::Depth,
+        limits::MOST_DEPTH as usize,
+        draft.levels.len(),
+    );
     let place = draft.room_for_domain();
     all_hold(&[
         free,

@@ -1,4 +1,5 @@
 ghost use Rattle.std.specs.Prelude.{◌≡◌, ◌+◌, ◌<◌, ◌≤◌, ◌&&◌, length, IfOk, OnOk, codes, bytes_eq};
+ghost use Rattle.cd_tree.specs.Limits.{text_limit};
 ghost use Rattle.cd_words.specs.Steps.{Reads, Answers};
 ghost use Rattle.cd_words.specs.Layouts.{IsTable};
 ghost use Rattle.cd_words.specs.Sums.{is_base};
@@ -8,7 +9,7 @@ ghost use Rattle.cd_parse.specs.Turns.{read_from, turn_from, loop_as, ReadsLoop,
 use crate::draft::Builder;
 use crate::statements::statement;
 use cd_base::{Bytes, NoMemory};
-use cd_tree::{Refusal, Refuse, Which};
+use cd_tree::{Refusal, Refuse, Which, limits};
 use cd_words::{Line, Role, Variable, Wrong, both, bounds, guard, is_base, lay_out, room};
 use std::alloc::Global;
 
@@ -100,13 +101,13 @@ fn bounds_part(parts: Result<((), ((u64, u64), ((), ()))), Wrong>) -> Result<(u6
     }
 }
 
-// The variable is no other's, and at most fifteen loops stand around.
+// The variable is no other's, and not too many loops stand around.
 fn loop_limits(variables: &[Variable], variable: &[u8]) -> Result<((), ()), Wrong>
     ensures { result ≡ loop_limits variables.now variable.now }
 {
     both(
         guard(!is_variable(variables, variable), Wrong::Taken),
-        room(Which::Nesting, 16, variables.len()),
+        room(Which::Nesting, limits::MOST_NESTING, variables.len()),
     )
 }
 
@@ -242,7 +243,7 @@ fn turn(
 
 /// What a text has said at its end, or why it is no document.
 pub(crate) fn read_draft(alloc: Global, bytes: &[u8]) -> Result<Builder, Refuse>
-    requires { length bytes.now ≤ 1048576 }
+    requires { length bytes.now ≤ text_limit }
     ensures { Answers result (draft_of bytes.now) }
 {
     let layout = match lay_out(alloc, bytes) {

@@ -1,3 +1,4 @@
+pub mod Limits
 pub mod KindSets
 pub mod Operations
 pub mod Domains

@@ -6,6 +6,7 @@ use Rattle.cd_tree.specs.declared.domain.Item.TheVariants.{Run, Group}
 use Rattle.cd_tree.specs.declared.domain.Entry.{Entry}
 use Rattle.cd_tree.specs.declared.domain.Domain.{Domain}
 use Rattle.cd_tree.specs.declared.kinds.KindName.{KindName}
+use Rattle.cd_tree.specs.Limits.{members_limit, retry_limit, entries_limit, kinds_limit, domains_limit, depth_limit, items_limit, preserves_limit}
 use Rattle.cd_tree.specs.Operations.{op_reads, op_writes, IsFull, FitsShape}
 use Rattle.cd_tree.specs.Domains.{root_of, node_numbers, node_depth, numbers_from}
 
@@ -24,21 +25,21 @@ NamesChildren domains at [] = Unit {0}
 NamesChildren domains at (id ∷ ids) =
     (at < id.0) × IsSomeAnd (slice_get domains id.0) (λ child. child.parent ≡ Some (record { 0 = at })) × NamesChildren domains at ids
 
--- an operation's ranges have places and its shape is right; a group has 1 to 256 members, which are children
+-- an operation's ranges have places and its shape is right; a group has members, not too many, which are children
 abbrev pub FitsItems : List Domain → ℕ → List Item → Type 0
 FitsItems domains at [] = Unit {0}
 FitsItems domains at (Run op ∷ items) =
     All IsFull (op_writes op ∷ op_reads op) × FitsShape op × FitsItems domains at items
 FitsItems domains at (Group ids ∷ items) =
-    (0 < length ids) × (length ids ≤ 256) × NamesChildren domains at ids × FitsItems domains at items
+    (0 < length ids) × (length ids ≤ members_limit) × NamesChildren domains at ids × FitsItems domains at items
 
 -- one domain among all: its name is no path, its tries and entries are within the limits, its items fit
 pub record FitsDomain (kinds : List KindName) (domains : List Domain) (at : ℕ) (domain : Domain) : Type 0 where
   pub name : Contains domain.name 47 → ⊥
   pub tries : 0 < domain.retry
-  pub retry : domain.retry ≤ 100
+  pub retry : domain.retry ≤ retry_limit
   pub detects : domain.detects < 2 ^ length kinds
-  pub entries : length domain.entries ≤ 64
+  pub entries : length domain.entries ≤ entries_limit
   pub ranges : All (λ (entry : Entry). IsFull entry.range) domain.entries
   pub items : FitsItems domains at domain.items
 
@@ -66,8 +67,8 @@ pub record IsTree (tree : Outline) : Type 0 where
   pub each : EachFits tree.kinds tree.domains 0 tree.domains
   pub siblings : SiblingsDiffer tree.domains
   pub kinds : KindsDiffer tree.kinds
-  pub few_kinds : length tree.kinds ≤ 16
-  pub few : length tree.domains ≤ 2048
-  pub depth : node_depth (root_of tree.domains) ≤ 16
-  pub items : sum_by (λ (domain : Domain). length domain.items) tree.domains ≤ 16384
-  pub preserves : sum_by (λ (domain : Domain). length domain.entries) tree.domains ≤ 16384
+  pub few_kinds : length tree.kinds ≤ kinds_limit
+  pub few : length tree.domains ≤ domains_limit
+  pub depth : node_depth (root_of tree.domains) ≤ depth_limit
+  pub items : sum_by (λ (domain : Domain). length domain.items) tree.domains ≤ items_limit
+  pub preserves : sum_by (λ (domain : Domain). length domain.entries) tree.domains ≤ preserves_limit

@@ -9,6 +9,7 @@ mod event;
 mod groups;
 mod kinds;
 pub mod laws;
+pub mod limits;
 mod operation;
 mod path;
 mod refusal;
