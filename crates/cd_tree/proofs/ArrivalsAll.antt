@@ -11,7 +11,7 @@ use Rattle.cd_tree.specs.declared.operation.Op.{Op}
 use Rattle.cd_tree.specs.Reading.{Case, Counts, Past, joined, Told, told, after, TryEnd, Passed, Failed, Broken, NodeEnd, GroupEnd, AllDone, SomeEscalated, Try, refilled_from, prepared, escalation, halted, unless_halted, group_ended, ended, unless_failed, tries, read_node, read_points, read_members, read_try}
 use Rattle.cd_tree.specs.Fronts.{Stand, Front, arrives, begins, past_item, where_none, next_point, behind_point, behind_arrival, tried, front_of_node, behind_front, WaitsAt}
 use Rattle.cd_tree.specs.FrontLaws.{StandsThere, FrontBehind, FrontsEndThere, ArrivalsAreFronts, teller_of}
-use Rattle.cd_tree.specs.CountLaws.{among}
+use Rattle.cd_tree.specs.Slices.{among}
 use Rattle.cd_tree.proofs.EventsTold.{Every, every_append}
 use Rattle.cd_tree.proofs.TellOwn.{TellerIn, members_tell_own}
 use Rattle.cd_tree.proofs.Arrivals.{NoArrival, split, not_among, arrivals, append_nil, begin_none, refilled_none}

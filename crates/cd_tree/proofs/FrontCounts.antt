@@ -8,7 +8,8 @@ use Rattle.cd_tree.specs.Domains.{Node, Body, Members, node, stop, run, group, n
 use Rattle.cd_tree.specs.Reading.{Case, Counts, counted, Told, after, TryEnd, NodeEnd, GroupEnd, Try, group_ended, tries, read_node, read_points, read_members, read_try}
 use Rattle.cd_tree.specs.Fronts.{Stand, next_point, behind_point, behind_arrival, behind_front, behind_members}
 use Rattle.cd_tree.specs.FrontLaws.{StandsThere, PassedPointsAreQuiet, NoGroupLeakHalts, FrontCountsLieBetween, MemberCountsLieBelow}
-use Rattle.cd_tree.specs.CountLaws.{copies, AreDistinct, among, AgreeOn, EachMember, MembersStayBelow}
+use Rattle.cd_tree.specs.CountLaws.{copies, AreDistinct, AgreeOn, EachMember, MembersStayBelow}
+use Rattle.cd_tree.specs.Slices.{among}
 use Rattle.cd_tree.proofs.Leaks.{QuietGroup, members_quiet}
 use Rattle.cd_tree.proofs.Numbers.{copies-append}
 use Rattle.cd_tree.proofs.CountsParts.{Grows, grows_more, counted_least, unless_halted_grows, detected_grows, group_ended_grows, behind_group_grows, begun_grows, tries_grows}

@@ -10,7 +10,7 @@ use Rattle.cd_tree.specs.Domains.{Node, Body, stop, run, group, body_behind, bod
 use Rattle.cd_tree.specs.Scripts.{struck, kinds_of}
 use Rattle.cd_tree.specs.Reading.{Case, Counts, Past, joined, Told, told, after, TryEnd, Passed, Failed, Broken, GroupEnd, AllDone, SomeEscalated, Try, halted, unless_halted, group_ended, read_points, read_members}
 use Rattle.cd_tree.specs.Fronts.{Stand, Front, arrives, begins, past_group, past_item, where_none, next_point, behind_point, behind_arrival, tried}
-use Rattle.cd_tree.specs.CountLaws.{among}
+use Rattle.cd_tree.specs.Slices.{among}
 use Rattle.cd_tree.proofs.Leaks.{QuietGroup, or_is_quiet, members_quiet}
 use Rattle.cd_tree.proofs.CountsReading.{member-counts-do-not-fall}
 use Rattle.cd_tree.proofs.OtherCounts.{points_others_stay, members_others_stay, among_left, among_right}

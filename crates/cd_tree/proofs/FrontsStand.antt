@@ -11,7 +11,7 @@ use Rattle.cd_tree.specs.Scripts.{struck, kinds_of}
 use Rattle.cd_tree.specs.Reading.{Case, Counts, counted, Told, after, Blame, TryEnd, Failed, NodeEnd, Try, unless_failed, tries, read_node, read_try}
 use Rattle.cd_tree.specs.Fronts.{Front, begins, next_point, behind_arrival, next_try, first_front, front_of_try, points_on, front_of_node, behind_front}
 use Rattle.cd_tree.specs.FrontLaws.{FrontsLead, RecordsBegin, StandsThere, FrontsStand}
-use Rattle.cd_tree.specs.CountLaws.{among}
+use Rattle.cd_tree.specs.Slices.{among}
 use Rattle.cd_tree.proofs.Leaks.{none_is_quiet}
 use Rattle.cd_tree.proofs.FrontParts.{repeated, after_twice, tries_after, begins_leads}
 use Rattle.cd_tree.proofs.FrontSteps.{IfThere, there, Onward, notes_halt, next_onward, tried_all, behind_arrival_stays, behind_one_more, behind_has_no_more}

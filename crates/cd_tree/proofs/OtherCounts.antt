@@ -6,7 +6,8 @@ use Rattle.std.proofs.lemmas.Bool.Decides.{nat_tests}
 use Rattle.cd_tree.specs.KindSets.{no_kinds}
 use Rattle.cd_tree.specs.Domains.{Node, Body, Members, node, stop, run, group, no_more, member, root_of, node_numbers, body_numbers, member_numbers, Throughout, ThroughoutBody, ThroughoutMembers}
 use Rattle.cd_tree.specs.Reading.{Case, Counts, Told, after, NodeEnd, GroupEnd, Try, detected, begun, behind_group, with_end, with_member, read_node, read_points, read_members}
-use Rattle.cd_tree.specs.CountLaws.{copies, AreDistinct, among, AgreeOn, ReadsOwnCounts, ReadsPointsCounts, ReadsMembersCounts, read_each, EachIsInOrder, NumbersAreDistinct}
+use Rattle.cd_tree.specs.CountLaws.{copies, AreDistinct, AgreeOn, ReadsOwnCounts, ReadsPointsCounts, ReadsMembersCounts, read_each, EachIsInOrder, NumbersAreDistinct}
+use Rattle.cd_tree.specs.Slices.{among}
 use Rattle.cd_tree.proofs.EachDomain.{of_each}
 use Rattle.cd_tree.proofs.Numbers.{copies-append, copies-at_most_one}
 use Rattle.cd_tree.proofs.OtherParts.{on, put, on_inside, on_outside, begun_other, arrived_other, behind_group_other, with_member_other, tries_other}

@@ -6,7 +6,7 @@ use Rattle.cd_tree.specs.declared.event.Event.{Event}
 use Rattle.cd_tree.specs.Domains.{Node, Body, Members, node, stop, run, group, no_more, member, node_numbers, body_numbers, member_numbers, Throughout, ThroughoutBody, ThroughoutMembers}
 use Rattle.cd_tree.specs.Reading.{Case, Counts, saved_from, read_node, read_members}
 use Rattle.cd_tree.specs.FrontLaws.{teller_of, DomainsTellTheirOwn}
-use Rattle.cd_tree.specs.CountLaws.{among}
+use Rattle.cd_tree.specs.Slices.{among}
 use Rattle.cd_tree.proofs.EventsTold.{Every, all_every, Tells, TellsAll, node_all, members_all}
 use Rattle.cd_tree.proofs.OtherCounts.{Holds, among_first, or_right, among_left, among_right}
 

@@ -10,7 +10,8 @@ use Rattle.cd_tree.specs.declared.operation.Op.TheVariants.{Fill}
 use Rattle.cd_tree.specs.Domains.{Members, stop, run, node_of, root_of, members_by, body_of, body_behind}
 use Rattle.cd_tree.specs.Reading.{Case, Counts, Told, SomeEscalated, blame, no_begins, counted, read_node}
 use Rattle.cd_tree.specs.Fronts.{Front, front_of_node, WaitsAt}
-use Rattle.cd_tree.specs.CountLaws.{among, counts_on, copies, read_each}
+use Rattle.cd_tree.specs.CountLaws.{counts_on, copies, read_each}
+use Rattle.cd_tree.specs.Slices.{among}
 use Rattle.cd_tree.proofs.WorkedForms.{number, root, inner, part, copied, strike, case_with, counts_of, begin, saved, refilled, reached, halted, found, complete, escalate}
 
 abbrev y : Range

@@ -5,6 +5,7 @@ use Rattle.cd_tree.specs.Domains.{Node, Body, Members, no_more, member, node_num
 use Rattle.cd_tree.specs.Outlines.{Outline, IsTree}
 use Rattle.cd_tree.specs.Reading.{Case, Counts, silence, Told, told, GroupEnd, AllDone, Try, with_member, read_node, read_points, read_members}
 use Rattle.cd_tree.specs.Laws.{OfEach}
+use Rattle.cd_tree.specs.Slices.{among}
 
 -- how often n stands among these numbers
 abbrev pub copies : ℕ → List ℕ → ℕ
@@ -14,10 +15,6 @@ copies n (number ∷ numbers) = cond (n == number) 1 0 + copies n numbers
 -- no number stands among these twice
 abbrev pub AreDistinct : List ℕ → Type 0
 AreDistinct numbers = (n : ℕ) → copies n numbers ≤ 1
-
-abbrev pub among : List ℕ → ℕ → Bool
-among [] n = false
-among (number ∷ numbers) n = (n == number) || among numbers n
 
 -- the new counts of these numbers, and the old ones of all others
 abbrev pub counts_on : List ℕ → Counts → Counts → Counts

@@ -11,7 +11,7 @@ use Rattle.cd_tree.specs.Domains.{Node, Body, Members, node, body_behind, node_n
 use Rattle.cd_tree.specs.Scripts.{struck, kinds_of}
 use Rattle.cd_tree.specs.Reading.{Case, Counts, Blame, joined, Told, after, GroupEnd, AllDone, SomeEscalated, read_node, read_members}
 use Rattle.cd_tree.specs.Fronts.{Front, arrives, next_point, next_try, first_front, front_of_node, behind_front, behind_members, WaitsAt}
-use Rattle.cd_tree.specs.CountLaws.{among}
+use Rattle.cd_tree.specs.Slices.{among}
 
 -- a front, and behind it what is left, are the whole reading
 abbrev pub FrontsLead : Type 0
