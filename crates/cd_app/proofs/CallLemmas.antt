@@ -9,7 +9,7 @@ use Rattle.cd_tree.specs.declared.event.Cause.{Cause}
 use Rattle.cd_tree.specs.declared.refusal.Refusal.{Refusal}
 use Rattle.cd_check.specs.Checking.{FirstRefusalOf, Passes}
 use Rattle.cd_parse.specs.Reading.{parse}
-use Rattle.cd_field.specs.Machine.{Machine}
+use Rattle.cd_field.specs.FieldModel.{FieldModel}
 use Rattle.cd_command.specs.declared.command.Command.{Command}
 use Rattle.cd_command.specs.CommandLine.{command_in}
 use Rattle.cd_app.specs.declared.receive.Stop.TheVariants as stop
@@ -163,7 +163,7 @@ took_nothing None m = refl
 took_nothing (Some intake) m = ([], (nothing_consumed m.left, omega arith), omega arith)
 
 -- before anything was read
-pub no_memory_at_once : (words : List (List ℕ)) (source : SourceModel) (m : Machine) (sink : SinkModel)
+pub no_memory_at_once : (words : List (List ℕ)) (source : SourceModel) (m : FieldModel) (sink : SinkModel)
     → Meets (call_of words source source m m) sink sink NoMemory
 no_memory_at_once words source m sink = inl ((took_nothing (intake_in words) source, inl refl), refl)
 

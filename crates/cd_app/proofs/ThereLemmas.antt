@@ -12,7 +12,7 @@ use Rattle.cd_tree.specs.declared.domain.How.{How}
 use Rattle.cd_tree.specs.declared.domain.How.TheVariants as kept
 use Rattle.cd_tree.specs.declared.refusal.Refusal.{Refusal}
 use Rattle.cd_tree.specs.KindSets.{no_kinds, halting}
-use Rattle.cd_tree.specs.Outlines.{Outline}
+use Rattle.cd_tree.specs.TreeModel.{TreeModel}
 use Rattle.cd_check.specs.Checking.{Passes}
 use Rattle.cd_check.specs.There.{IsRefused, DocumentIsJudged}
 use Rattle.cd_core.specs.Single.{OnlyCopies, NeverHalts}
@@ -59,7 +59,7 @@ copied kept.Copy = inl refl
 copied kept.Refer = inr (λ same. cc)
 copied (kept.Regen pattern) = inr (λ same. cc)
 
-built_decided : (tree : Outline) → Decided (IsBuilt tree)
+built_decided : (tree : TreeModel) → Decided (IsBuilt tree)
 built_decided tree =
     go (both (same_number (length tree.domains) 1)
     (both (all_decided (λ (domain : Domain). All (λ (entry : Entry). entry.how ≡ kept.Copy) domain.entries)

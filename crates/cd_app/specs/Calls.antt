@@ -1,7 +1,7 @@
 -- What a call of the program does: its status, what it takes, what it writes and what it leaves.
 use Rattle.std.specs.Prelude.{◌≡◌, ◌⊎◌, ℕ, Bool, List, Option, None, Some}
 use Rattle.cd_base.specs.Ends.{SourceModel, SinkModel, Rose, TookAtMost, Grew, GrewByFront}
-use Rattle.cd_field.specs.Machine.{Machine}
+use Rattle.cd_field.specs.FieldModel.{FieldModel}
 use Rattle.cd_app.specs.declared.status.Status.{Status}
 use Rattle.cd_app.specs.declared.status.Status.TheVariants.{Done, Exhausted, Usage, Refused, ReadFault, WriteFault, NoMemory, NotBuilt}
 use Rattle.cd_app.specs.Running.{HoldsRun}
@@ -13,10 +13,10 @@ pub record Call : Type 0 where
   pub words : List (List ℕ)
   pub source_was : SourceModel
   pub source_now : SourceModel
-  pub machine_was : Machine
-  pub machine_now : Machine
+  pub machine_was : FieldModel
+  pub machine_now : FieldModel
 
-abbrev pub call_of : List (List ℕ) → SourceModel → SourceModel → Machine → Machine → Call
+abbrev pub call_of : List (List ℕ) → SourceModel → SourceModel → FieldModel → FieldModel → Call
 call_of words source_was source_now machine_was machine_now =
     record { words = words; source_was = source_was; source_now = source_now; machine_was = machine_was; machine_now = machine_now }
 

@@ -8,7 +8,7 @@ use Rattle.cd_tree.specs.declared.document.Fault.{Fault}
 use Rattle.cd_tree.specs.declared.refusal.Refuse.{Refuse}
 use Rattle.cd_tree.specs.declared.refusal.Refuse.TheVariants as refuse
 use Rattle.cd_check.specs.Checking.{FirstRefusalOf, Passes}
-use Rattle.cd_cover.specs.Plans.{Planned}
+use Rattle.cd_cover.specs.Plans.{PlanModel}
 use Rattle.cd_parse.specs.Reading.{parse}
 use Rattle.cd_parse.specs.WellRead.{WellRead}
 use Rattle.cd_app.specs.declared.actions.Action.{Action}
@@ -79,7 +79,7 @@ settled (Err write.Failed) status = behind_fault status
 settled (Err write.NoMemory) status = NoMemory
 
 -- a document that was read, that the checks pass with a script, and for which a plan was made
-pub record IsPassed (document : Document) (plan : Planned) (script : List Fault) : Type 0 where
+pub record IsPassed (document : Document) (plan : PlanModel) (script : List Fault) : Type 0 where
   pub well : WellRead document
   pub planned : plan.tree ≡ document.tree
   pub passes : Passes document script

@@ -5,11 +5,11 @@ use Rattle.cd_tree.specs.declared.document.Document.{Document}
 use Rattle.cd_tree.specs.declared.document.Fault.{Fault}
 use Rattle.cd_tree.specs.Domains.{root_of}
 use Rattle.cd_tree.specs.Meaning.{initial, node_meaning, node_need}
-use Rattle.cd_tree.specs.Outlines.{Outline}
+use Rattle.cd_tree.specs.TreeModel.{TreeModel}
 use Rattle.cd_tree.specs.Reading.{NodeEnd, Done as Completed, Escalated}
 use Rattle.cd_tree.specs.Record.{reading, record_of}
 use Rattle.cd_print.specs.Canonical.{canonical, lifted}
-use Rattle.cd_field.specs.Machine.{Machine, nowhere}
+use Rattle.cd_field.specs.FieldModel.{FieldModel, nowhere}
 use Rattle.cd_core.specs.Single.{OnlyCopies, NeverHalts}
 use Rattle.cd_reading.specs.Through.{begins_in, cause_in}
 use Rattle.cd_report.specs.Records.{run_text}
@@ -46,13 +46,13 @@ report_of with_record document script =
     (begins_in document.tree script) (cause_in document.tree script)
 
 -- a machine on which a document has run: the record is the reading's, the regions have their last words, nothing is lost
-pub record HoldsRun (document : Document) (script : List Fault) (m : Machine) : Type 0 where
+pub record HoldsRun (document : Document) (script : List Fault) (m : FieldModel) : Type 0 where
   pub record_is : m.events ≡ record_of document.tree script
   pub words : m.words ≡ last_words document script
   pub present : m.lost ≡ nowhere
 
 -- what the engine can run as yet: one domain, whose entries are copies, and no kind that halts
-pub record IsBuilt (tree : Outline) : Type 0 where
+pub record IsBuilt (tree : TreeModel) : Type 0 where
   pub one : length tree.domains ≡ 1
   pub copies : OnlyCopies tree
   pub quiet : NeverHalts tree

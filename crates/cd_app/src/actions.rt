@@ -5,7 +5,7 @@ ghost use Rattle.cd_tree.specs.Domains.{root_of};
 ghost use Rattle.cd_tree.specs.Meaning.{node_need};
 ghost use Rattle.cd_check.specs.Checking.{Passes};
 ghost use Rattle.cd_parse.specs.WellRead.{WellRead};
-ghost use Rattle.cd_field.specs.Machine.{Machine};
+ghost use Rattle.cd_field.specs.FieldModel.{FieldModel};
 ghost use Rattle.cd_command.specs.declared.command.Command.TheVariants as command;
 ghost use Rattle.cd_app.specs.Running.{check_text, read_text, lift_text};
 ghost use Rattle.cd_app.specs.Deeds.{one_document, deed_of, deed_in};
@@ -45,7 +45,7 @@ pub(crate) fn act<S: Source, K: Sink, F: Field>(
     sink: &mut K,
     machine: &mut F,
 ) -> Status
-    ensures { (words : List (List ℕ)) → deed_in words ≡ Some (deed_for action) → Meets (call_of words (S.model source.old) (S.model source.new) (F.state machine.old) (F.state machine.new)) (K.model sink.old) (K.model sink.new) result }
+    ensures { (words : List (List ℕ)) → deed_in words ≡ Some (deed_for action) → Meets (call_of words (S.model source.old) (S.model source.new) (F.model machine.old) (F.model machine.new)) (K.model sink.old) (K.model sink.new) result }
 {
     a_document_is_well_read();
     match receive(alloc, source) {
@@ -63,7 +63,7 @@ fn judge<K: Sink, F: Field>(
     machine: &mut F,
 ) -> Status
     requires { WellRead document.now }
-    ensures { (call : Call) → deed_in call.words ≡ Some (deed_for action) → IsRead one_document call.source_was call.source_now document.now → call.machine_was ≡ F.state machine.old → call.machine_now ≡ F.state machine.new → Meets call (K.model sink.old) (K.model sink.new) result }
+    ensures { (call : Call) → deed_in call.words ≡ Some (deed_for action) → IsRead one_document call.source_was call.source_now document.now → call.machine_was ≡ F.model machine.old → call.machine_now ≡ F.model machine.new → Meets call (K.model sink.old) (K.model sink.new) result }
 {
     match Footprints::of(alloc, &document.tree) {
         Ok(feet) => match check(alloc, document, &feet) {
@@ -85,7 +85,7 @@ fn perform<K: Sink, F: Field>(
     machine: &mut F,
 ) -> Status
     requires { IsPassed document.now plan.now script.now }
-    ensures { (call : Call) → deed_in call.words ≡ Some (deed_for action) → IsRead one_document call.source_was call.source_now document.now → call.machine_was ≡ F.state machine.old → call.machine_now ≡ F.state machine.new → Meets call (K.model sink.old) (K.model sink.new) result }
+    ensures { (call : Call) → deed_in call.words ≡ Some (deed_for action) → IsRead one_document call.source_was call.source_now document.now → call.machine_was ≡ F.model machine.old → call.machine_now ≡ F.model machine.new → Meets call (K.model sink.old) (K.model sink.new) result }
 {
     match action {
         Action::Check => settled(write_check(alloc, document, plan, sink), Status::Done),
@@ -104,7 +104,7 @@ fn perform<K: Sink, F: Field>(
 
 // Does `lift` with the document that the source gives. What it writes takes the document apart, so nothing may stand on it.
 pub(crate) fn lift<S: Source, K: Sink>(alloc: Global, source: &mut S, sink: &mut K) -> Status
-    ensures { (words : List (List ℕ)) (m : Machine) → deed_in words ≡ Some (deed_of command.Lift) → Meets (call_of words (S.model source.old) (S.model source.new) m m) (K.model sink.old) (K.model sink.new) result }
+    ensures { (words : List (List ℕ)) (m : FieldModel) → deed_in words ≡ Some (deed_of command.Lift) → Meets (call_of words (S.model source.old) (S.model source.new) m m) (K.model sink.old) (K.model sink.new) result }
 {
     match receive(alloc, source) {
         Ok(document) => match passes(alloc, &document) {

@@ -19,7 +19,7 @@ pub fn run_cd<S: Source, K: Sink, F: Field>(
     sink: &mut K,
     machine: &mut F,
 ) -> Status
-    ensures { Meets (call_of words.now (S.model source.old) (S.model source.new) (F.state machine.old) (F.state machine.new)) (K.model sink.old) (K.model sink.new) result }
+    ensures { Meets (call_of words.now (S.model source.old) (S.model source.new) (F.model machine.old) (F.model machine.new)) (K.model sink.old) (K.model sink.new) result }
 {
     match command_of(alloc, words) {
         Ok(Some(Command::Check)) => act(alloc, Action::Check, source, sink, machine),

@@ -32,7 +32,7 @@ pub(crate) fn run_document<K: Sink, F: Field>(
     machine: &mut F,
 ) -> Status
     requires { IsPassed document.now plan.now script.now }
-    ensures { (call : Call) → deed_in call.words ≡ Some (runs one_document with_record) → IsRead one_document call.source_was call.source_now document.now → call.machine_was ≡ F.state machine.old → call.machine_now ≡ F.state machine.new → Meets call (K.model sink.old) (K.model sink.new) result }
+    ensures { (call : Call) → deed_in call.words ≡ Some (runs one_document with_record) → IsRead one_document call.source_was call.source_now document.now → call.machine_was ≡ F.model machine.old → call.machine_now ≡ F.model machine.new → Meets call (K.model sink.old) (K.model sink.new) result }
 {
     if !is_built(&document.tree) {
         return settled(write_not_built(sink), Status::NotBuilt);
@@ -57,7 +57,7 @@ fn run_machine<F: Field>(
 ) -> Result<(u64, Option<Cause>), NoMemory>
     requires passed { IsPassed document.now plan.now script.now }
     requires built { IsBuilt document.now.tree }
-    ensures machine { OnOk result (HoldsRun document.now script.now (F.state machine.new)) }
+    ensures machine { OnOk result (HoldsRun document.now script.now (F.model machine.new)) }
     ensures begins { IfOk result (λ ran. ran.0 ∷ [] ≡ begins_in document.now.tree script.now) }
     ensures cause { IfOk result (λ ran. ran.1 ≡ cause_in document.now.tree script.now) }
 {
@@ -78,8 +78,8 @@ fn report<K: Sink, F: Field>(
     sink: &mut K,
 ) -> Result<(), WriteStop>
     requires built { IsBuilt document.now.tree }
-    requires ran { (script : List Fault) × HoldsRun document.now script (F.state machine.now) }
-    ensures { (script : List Fault) → HoldsRun document.now script (F.state machine.now) → begins ∷ [] ≡ begins_in document.now.tree script → option_copied cause.entry ≡ cause_in document.now.tree script → WriteAll (K.model sink.old) (K.model sink.new) (report_of with_record document.now script) result }
+    requires ran { (script : List Fault) × HoldsRun document.now script (F.model machine.now) }
+    ensures { (script : List Fault) → HoldsRun document.now script (F.model machine.now) → begins ∷ [] ≡ begins_in document.now.tree script → option_copied cause.entry ≡ cause_in document.now.tree script → WriteAll (K.model sink.old) (K.model sink.new) (report_of with_record document.now script) result }
 {
     laws::words_stay();
     let Ok(counts) = vec![in alloc; begins] else {

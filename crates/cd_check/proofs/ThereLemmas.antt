@@ -3,7 +3,7 @@ use Rattle.std.proofs.Common.{◌≡◌, ◌⊎◌, List, [], ◌∷◌, Option,
 use Rattle.cd_tree.specs.declared.document.Document.{Document}
 use Rattle.cd_tree.specs.declared.document.Fault.{Fault}
 use Rattle.cd_tree.specs.declared.refusal.Refusal.{Refusal}
-use Rattle.cd_tree.specs.Outlines.{IsTree}
+use Rattle.cd_tree.specs.TreeModel.{IsTree}
 use Rattle.cd_tree.specs.Refusals.{Then, FirstOf}
 use Rattle.cd_foot.specs.Bounded.{FirstOverlapIsThere, NoOverlapIsDisjoint}
 use Rattle.cd_cover.specs.There.{FirstFlawIsThere}

@@ -11,7 +11,7 @@ use Rattle.cd_tree.specs.Refusals.{FirstOf}
 use Rattle.cd_tree.specs.Scripts.{IsAccepted}
 use Rattle.cd_foot.specs.Overlaps.{FirstOverlap}
 use Rattle.cd_cover.specs.Checks.{FirstFlaw}
-use Rattle.cd_cover.specs.Plans.{Planned}
+use Rattle.cd_cover.specs.Plans.{PlanModel}
 use Rattle.cd_script.specs.Acceptance.{FirstFault, AreFoundAs}
 
 -- a question that may be asked of a document: whether siblings interfere; what stands in the way of a plan; whether the faults
@@ -48,7 +48,7 @@ pub record Passes (document : Document) (script : List Fault) : Type 0 where
 
 -- what the checks answer: a plan of the document's program, and its script; or the first refusal; nothing is said where
 -- memory ran out
-abbrev pub Checks : Document → Result (Planned × List Fault) Refuse → Type 0
+abbrev pub Checks : Document → Result (PlanModel × List Fault) Refuse → Type 0
 Checks document (Ok checked) = (checked.0.tree ≡ document.tree) × Passes document checked.1
 Checks document (Err (Refused refusal)) = FirstRefusal document (Some refusal)
 Checks document (Err NoMemory) = Unit {0}

@@ -3,7 +3,7 @@ use Rattle.std.specs.Prelude.{◌≡◌, ◌↔◌, ℕ, List, Option}
 use Rattle.cd_tree.specs.declared.document.Document.{Document}
 use Rattle.cd_tree.specs.declared.document.Fault.{Fault}
 use Rattle.cd_tree.specs.declared.refusal.Refusal.{Refusal}
-use Rattle.cd_tree.specs.Outlines.{IsTree}
+use Rattle.cd_tree.specs.TreeModel.{IsTree}
 use Rattle.cd_check.specs.Checking.{Question, FirstRefusalOf, FirstRefusal, Passes}
 
 -- two first refusals of a document by the same questions, or a refusal and none, are the same

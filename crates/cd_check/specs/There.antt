@@ -3,7 +3,7 @@ use Rattle.std.specs.Prelude.{◌⊎◌, List, Option, Some}
 use Rattle.cd_tree.specs.declared.document.Document.{Document}
 use Rattle.cd_tree.specs.declared.document.Fault.{Fault}
 use Rattle.cd_tree.specs.declared.refusal.Refusal.{Refusal}
-use Rattle.cd_tree.specs.Outlines.{IsTree}
+use Rattle.cd_tree.specs.TreeModel.{IsTree}
 use Rattle.cd_check.specs.Checking.{FirstRefusal, Passes}
 
 -- a document is refused for this

@@ -7,7 +7,7 @@ use Rattle.cd_tree.specs.declared.domain.Entry.{Entry}
 use Rattle.cd_tree.specs.declared.event.Event.TheVariants.{Refilled}
 use Rattle.cd_tree.specs.Meaning.{in_entries}
 use Rattle.cd_tree.specs.Operations.{length_of}
-use Rattle.cd_field.specs.Machine.{Machine, told, refilled_word}
+use Rattle.cd_field.specs.FieldModel.{FieldModel, told, refilled_word}
 use Rattle.cd_core.specs.Copies.{place_at, words_from, put_back, restored_from, AreCopies}
 use Rattle.cd_core.proofs.Places.{or_left, or_right, by_test, chosen, other}
 
@@ -39,7 +39,7 @@ enough_copies (entry ∷ entries) [] fits = absurd fits
 enough_copies (entry ∷ entries) (words ∷ copies) fits = omega (arith, enough_copies entries copies fits.1)
 
 -- putting words back leaves no place without a word
-pub put_back-known : (m : Machine) (region at : ℕ) (words : List ℕ) (p : Place) → IsSome (m.words p)
+pub put_back-known : (m : FieldModel) (region at : ℕ) (words : List ℕ) (p : Place) → IsSome (m.words p)
     → IsSome ((put_back m region at words).words p)
 put_back-known m region at [] p known = known
 put_back-known m region at (word ∷ words) p known =
@@ -49,21 +49,21 @@ put_back-known m region at (word ∷ words) p known =
     (λ t. subst Q (sym (chosen (same_place (place_at region at) p) (Some word) (m.words p) t)) refl)
     (λ f. subst Q (sym (other (same_place (place_at region at) p) (Some word) (m.words p) f)) known))
 
-pub put_back-node : (m : Machine) (region at : ℕ) (words : List ℕ) → (put_back m region at words).node ≡ m.node
+pub put_back-node : (m : FieldModel) (region at : ℕ) (words : List ℕ) → (put_back m region at words).node ≡ m.node
 put_back-node m region at [] = refl
 put_back-node m region at (word ∷ words) = put_back-node (refilled_word m (place_at region at) word) region (suc at) words
 
 -- one entry more is put back
-pub entry_restored : (m put later whole : Machine) (k : ℕ) (entries : List Entry) (copies : List (List ℕ)) (entry : Entry) (words : List ℕ)
+pub entry_restored : (m put later whole : FieldModel) (k : ℕ) (entries : List Entry) (copies : List (List ℕ)) (entry : Entry) (words : List ℕ)
     → drop k entries ≡ entry ∷ drop (k + 1) entries → drop k copies ≡ words ∷ drop (k + 1) copies
     → put ≡ put_back m entry.range.region entry.range.low words → later ≡ told put (Refilled put.node k)
     → restored_from m k (drop k entries) (drop k copies) ≡ whole
     → restored_from later (k + 1) (drop (k + 1) entries) (drop (k + 1) copies) ≡ whole
 entry_restored m put later whole k entries copies entry words e c put_is later_is left =
-    let node : put.node ≡ m.node = ap (λ (v : Machine). v.node) put_is ∙ put_back-node m entry.range.region entry.range.low words in
+    let node : put.node ≡ m.node = ap (λ (v : FieldModel). v.node) put_is ∙ put_back-node m entry.range.region entry.range.low words in
     let next : later ≡ told (put_back m entry.range.region entry.range.low words) (Refilled m.node k) =
-    later_is ∙ ap (λ (n : _). told put (Refilled n k)) node ∙ ap (λ (v : Machine). told v (Refilled m.node k)) put_is in
-    ap (λ (v : Machine). restored_from v (k + 1) (drop (k + 1) entries) (drop (k + 1) copies)) next
+    later_is ∙ ap (λ (n : _). told put (Refilled n k)) node ∙ ap (λ (v : FieldModel). told v (Refilled m.node k)) put_is in
+    ap (λ (v : FieldModel). restored_from v (k + 1) (drop (k + 1) entries) (drop (k + 1) copies)) next
     ∙ ap (λ (n : ℕ). restored_from (told (put_back m entry.range.region entry.range.low words) (Refilled m.node k)) n
     (drop (k + 1) entries) (drop (k + 1) copies)) (add-one k)
     ∙ sym (ap (λ (es : List Entry). restored_from m k es (words ∷ drop (k + 1) copies)) e)

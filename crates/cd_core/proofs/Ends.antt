@@ -16,13 +16,13 @@ use Rattle.cd_tree.specs.declared.event.Cause.{Cause}
 use Rattle.cd_tree.specs.KindSets.{no_kinds, has_kind, halting}
 use Rattle.cd_tree.specs.Operations.{IsFull}
 use Rattle.cd_tree.specs.Domains.{Node, node, body_by, root_of, node_of, domain_of}
-use Rattle.cd_tree.specs.Outlines.{Outline, IsTree, FitsDomain, FitsItems, NamesChildren, EachFits}
+use Rattle.cd_tree.specs.TreeModel.{TreeModel, IsTree, FitsDomain, FitsItems, NamesChildren, EachFits}
 use Rattle.cd_tree.specs.Meaning.{in_entries, IsCovered, CoversBody, node_reach, node_meaning}
 use Rattle.cd_tree.specs.Scripts.{IsAccepted, IsDetectable, path_of, path_under}
 use Rattle.cd_tree.specs.Laws.{EndsClean, CoveredReach}
 use Rattle.cd_tree.specs.Reading.{Counts, no_begins, silence, only_events, Told, told, after, Blame, TryEnd, Passed, NodeEnd, Done, Escalated, escalation, judged, tries, read_node, read_points, counted, saved_from, refilled_from}
 use Rattle.cd_tree.specs.Record.{reading, cause_of}
-use Rattle.cd_field.specs.Machine.{Machine, IsPresent, begun, gone_up, told as told_to}
+use Rattle.cd_field.specs.FieldModel.{FieldModel, IsPresent, begun, gone_up, told as told_to}
 use Rattle.cd_core.specs.Copies.{copies_of, restored_from, AreCopies, told_all}
 use Rattle.cd_core.specs.Single.{Leads, IsSimple, quiet_case, plain_body, root_id, root_try, root_again, root_reading, machine_after, words_after, StaysWithin, CanRun, IsReady, IsTried, EndsWith}
 use Rattle.cd_core.proofs.Places.{not_true, or_left}
@@ -36,7 +36,7 @@ only_one (d ∷ []) domain one first = let same : d ≡ domain = cc in ap (λ (v
 only_one (d ∷ e ∷ ds) domain one first = absurd (omega arith)
 
 -- the reading of a program of one domain whose kinds never halt
-pub reading_is : (tree : Outline) (faults : List Fault) (domain : Domain) → tree.domains ≡ domain ∷ [] → halting tree.kinds ≡ no_kinds
+pub reading_is : (tree : TreeModel) (faults : List Fault) (domain : Domain) → tree.domains ≡ domain ∷ [] → halting tree.kinds ≡ no_kinds
     → reading tree faults ≡ root_reading faults domain
 reading_is tree faults domain one quiet =
     ap (λ (halts : ℕ). read_node (record { halts = halts; faults = faults }) (root_of tree.domains) no_begins) quiet
@@ -68,7 +68,7 @@ pub record IsRunnable (domain : Domain) : Type 0 where
   pub covered : CoversBody (in_entries domain.entries) (plain_body domain)
   pub stays : StaysWithin domain.entries domain.items
 
-pub runnable : (tree : Outline) (domain : Domain) → tree.domains ≡ domain ∷ [] → IsTree tree → IsSimple tree → IsRunnable domain
+pub runnable : (tree : TreeModel) (domain : Domain) → tree.domains ≡ domain ∷ [] → IsTree tree → IsSimple tree → IsRunnable domain
 runnable tree domain one is_tree simple =
     let P : List Domain → Type 0 = λ ds. EachFits tree.kinds tree.domains 0 ds in
     let fits : FitsDomain tree.kinds tree.domains 0 domain = (subst P one is_tree.each).0 in
@@ -85,7 +85,7 @@ runnable tree domain one is_tree simple =
     }
 
 -- the script of an accepted program strikes in the entries of its one domain, with kinds
-pub strikes_within : (law : CoveredReach) (tree : Outline) (domain : Domain) (faults : List Fault) → tree.domains ≡ domain ∷ [] → IsRunnable domain → IsAccepted tree faults
+pub strikes_within : (law : CoveredReach) (tree : TreeModel) (domain : Domain) (faults : List Fault) → tree.domains ≡ domain ∷ [] → IsRunnable domain → IsAccepted tree faults
     → All (λ (fault : Fault). fault.node.0 ≡ 0 → (in_entries domain.entries fault.place ≡ true) × (fault.kind.0 < 16)) faults
 strikes_within law tree domain faults one runs accepted k d short at_root =
     let fault : Fault = get_or faults k d in
@@ -99,31 +99,31 @@ strikes_within law tree domain faults one runs accepted k d short at_root =
     let has : has_kind (bit_or no_kinds domain.detects) fault.kind ≡ true = (subst R one accepted.found).0 k d short at_root in
     (law (node root_id domain (plain_body domain)) fault.place runs.covered reach, ltb-true _ _ (and_parts _ _ has).0)
 
-pub entries_reached : (tree : Outline) (domain : Domain) (p : Place) → tree.domains ≡ domain ∷ [] → in_entries domain.entries p ≡ true
+pub entries_reached : (tree : TreeModel) (domain : Domain) (p : Place) → tree.domains ≡ domain ∷ [] → in_entries domain.entries p ≡ true
     → node_reach (root_of tree.domains) p ≡ true
 entries_reached tree domain p one h =
     let P : List Domain → Type 0 = λ ds. node_reach (root_of ds) p ≡ true in
     subst P (sym one) (or_left _ _ (or_left _ _ h))
 
 -- before the first try
-pub first_ready : (domain : Domain) (was m : Machine) → was.events ≡ []
+pub first_ready : (domain : Domain) (was m : FieldModel) → was.events ≡ []
     → m ≡ told_all (begun was root_id 1) (saved_from root_id 0 domain.entries)
     → IsReady domain was m (domain.retry - 1)
 unfolding read_node
 first_ready domain was m fresh m_is =
     let heard : List Event = Begin root_id 1 ∷ saved_from root_id 0 domain.entries in
-    let saved : Machine = told_all (begun was root_id 1) (saved_from root_id 0 domain.entries) in
+    let saved : FieldModel = told_all (begun was root_id 1) (saved_from root_id 0 domain.entries) in
     let points : Told TryEnd = read_points (quiet_case was.script) (plain_body domain) (root_try domain 1) 0 no_kinds (counted 0 no_begins) in
     let leads : Leads heard (root_reading was.script domain) (tries (domain.retry - 1) root_id domain (root_again was.script domain) points) =
     tries_lead heard (domain.retry - 1) root_id domain (root_again was.script domain) (after (only_events heard) points) points
     (leads_after (only_events heard) points) in
     let events : heard ≡ saved.events = sym (ap (λ (es : List Event). (es ++ Begin root_id 1 ∷ []) ++ saved_from root_id 0 domain.entries) fresh) in
     let P : List Event → Type 0 = λ es. Leads es (root_reading was.script domain) (tries (domain.retry - 1) root_id domain (root_again was.script domain) points) in
-    let Q : Machine → Type 0 = λ v. IsReady domain was v (domain.retry - 1) in
+    let Q : FieldModel → Type 0 = λ v. IsReady domain was v (domain.retry - 1) in
     subst Q (sym m_is) (record { counts = counted 0 no_begins; begin = refl; leads = subst P events leads; machine = refl })
 
 -- entries that are put back from the words at the start
-pub put_right : (domain : Domain) (was m : Machine)
+pub put_right : (domain : Domain) (was m : FieldModel)
     → ((p : Place) → in_entries domain.entries p ≡ true → IsPresent was p)
     → ((p : Place) → in_entries domain.entries p ≡ false → m.words p ≡ was.words p)
     → m.lost ≡ was.lost
@@ -131,7 +131,7 @@ pub put_right : (domain : Domain) (was m : Machine)
     ≡ record m { words = was.words; events = m.events ++ refilled_from m.node 0 domain.entries }
 put_right domain was m present outside lost =
     let copies : List (List ℕ) = copies_of was.words domain.entries in
-    let now : Machine = restored_from m 0 domain.entries copies in
+    let now : FieldModel = restored_from m 0 domain.entries copies in
     let fit : AreCopies domain.entries copies = copies_fit was.words domain.entries in
     let words_are : now.words ≡ was.words = fun_ext (λ p. restored-words was.words m 0 domain.entries p (λ h. (present p h).known) (λ out. outside p out)) in
     let lost_is : now.lost ≡ m.lost = fun_ext (λ p. restored-lost m 0 domain.entries copies p fit (λ h. ap (λ (l : PlaceSet). l p) lost ∙ (present p h).here)) in
@@ -147,7 +147,7 @@ passed_last zero domain again counts leak = refl
 passed_last (suc n) domain again counts leak = refl
 
 -- what a run told and left, against the reading
-pub record HasEnded (tree : Outline) (was later : Machine) (begins : ℕ) (cause : Option Cause) : Type 0 where
+pub record HasEnded (tree : TreeModel) (was later : FieldModel) (begins : ℕ) (cause : Option Cause) : Type 0 where
   pub left : later ≡ machine_after tree (reading tree was.script) was
   pub count : begins ≡ (reading tree was.script).counts 0
   pub blames : cause ≡ cause_of tree.domains (reading tree was.script).answer
@@ -159,7 +159,7 @@ no_leak end leak e clean = elim clean [
 ]
 
 -- a run whose last try found nothing
-pub ends_done : (tree : Outline) (domain : Domain) (was m later : Machine) (spare begins : ℕ)
+pub ends_done : (tree : TreeModel) (domain : Domain) (was m later : FieldModel) (spare begins : ℕ)
     → tree.domains ≡ domain ∷ [] → halting tree.kinds ≡ no_kinds → EndsClean (reading tree was.script).answer
     → IsTried domain was m spare no_kinds → m.begin ≡ begins → later ≡ told_to m (Complete m.node)
     → HasEnded tree was later begins None
@@ -174,7 +174,7 @@ ends_done tree domain was m later spare begins one quiet clean behind number lat
     let counts : (reading tree was.script).counts 0 ≡ m.begin =
     ap (λ (t : Told NodeEnd). t.counts 0) whole ∙ ap (λ (c : Counts). c 0) leads.counts ∙ behind.begin in
     let none : m.notes ≡ no_kinds = no_leak _ m.notes answer clean in
-    let root : m.node ≡ root_id = ap (λ (v : Machine). v.node) behind.machine in
+    let root : m.node ≡ root_id = ap (λ (v : FieldModel). v.node) behind.machine in
     let meant : m.words ≡ node_meaning (root_of tree.domains) was.words =
     behind.meant none ∙ sym (ap (λ (ds : List Domain). node_meaning (root_of ds) was.words) one) in
     let words : m.words ≡ words_after (reading tree was.script).answer (node_meaning (root_of tree.domains) was.words) was.words =
@@ -182,7 +182,7 @@ ends_done tree domain was m later spare begins one quiet clean behind number lat
     record {
       left = later_is
           ∙ ap (λ (id : NodeId). record m { events = m.events ++ Complete id ∷ [] }) root
-          ∙ ap (λ (v : Machine). record v { events = m.events ++ Complete root_id ∷ [] }) behind.machine
+          ∙ ap (λ (v : FieldModel). record v { events = m.events ++ Complete root_id ∷ [] }) behind.machine
           ∙ ap (λ (es : List Event). record was { words = m.words; events = es; node = root_id; begin = m.begin; notes = m.notes }) (sym events)
           ∙ ap (λ (n : ℕ). record was { words = m.words; events = (reading tree was.script).past.events; node = root_id; begin = m.begin; notes = n }) none
           ∙ ap (λ (n : ℕ). record was { words = m.words; events = (reading tree was.script).past.events; node = root_id; begin = n; notes = no_kinds }) (sym counts)
@@ -192,7 +192,7 @@ ends_done tree domain was m later spare begins one quiet clean behind number lat
     }
 
 -- a run whose tries are used up
-pub ends_escalated : (tree : Outline) (domain : Domain) (was m back later : Machine) (copies : List (List ℕ)) (found begins : ℕ)
+pub ends_escalated : (tree : TreeModel) (domain : Domain) (was m back later : FieldModel) (copies : List (List ℕ)) (found begins : ℕ)
     → tree.domains ≡ domain ∷ [] → halting tree.kinds ≡ no_kinds → domain.parent ≡ None
     → ((p : Place) → in_entries domain.entries p ≡ true → IsPresent was p)
     → (found == no_kinds) ≡ false → copies ≡ copies_of was.words domain.entries
@@ -214,18 +214,18 @@ ends_escalated tree domain was m back later copies found begins one quiet orphan
     let events : (reading tree was.script).past.events ≡ m.events ++ last = ap (λ (t : Told NodeEnd). t.past.events) whole ∙ leads.heard in
     let counts : (reading tree was.script).counts 0 ≡ m.begin =
     ap (λ (t : Told NodeEnd). t.counts 0) whole ∙ ap (λ (c : Counts). c 0) leads.counts ∙ behind.begin in
-    let root : m.node ≡ root_id = ap (λ (v : Machine). v.node) behind.machine in
+    let root : m.node ≡ root_id = ap (λ (v : FieldModel). v.node) behind.machine in
     let right : back ≡ record m { words = was.words; events = m.events ++ refilled_from m.node 0 domain.entries } =
     back_is ∙ ap (λ (cs : List (List ℕ)). restored_from m 0 domain.entries cs) copied
-    ∙ put_right domain was m present behind.outside (ap (λ (v : Machine). v.lost) behind.machine) in
+    ∙ put_right domain was m present behind.outside (ap (λ (v : FieldModel). v.lost) behind.machine) in
     let told_all : (m.events ++ refilled_from root_id 0 domain.entries) ++ Escalate root_id ∷ [] ≡ (reading tree was.script).past.events =
     append_assoc m.events (refilled_from root_id 0 domain.entries) (Escalate root_id ∷ []) ∙ sym events in
     record {
       left = later_is
-          ∙ ap (λ (v : Machine). gone_up v) right
+          ∙ ap (λ (v : FieldModel). gone_up v) right
           ∙ ap (λ (id : NodeId). record m { words = was.words; events = (m.events ++ refilled_from id 0 domain.entries) ++ Escalate id ∷ []; notes = no_kinds }) root
           ∙ ap (λ (es : List Event). record m { words = was.words; events = es; notes = no_kinds }) told_all
-          ∙ ap (λ (v : Machine). record v { words = was.words; events = (reading tree was.script).past.events; notes = no_kinds }) behind.machine
+          ∙ ap (λ (v : FieldModel). record v { words = was.words; events = (reading tree was.script).past.events; notes = no_kinds }) behind.machine
           ∙ ap (λ (n : ℕ). record was { events = (reading tree was.script).past.events; node = root_id; begin = n; notes = no_kinds }) (sym counts)
           ∙ ap (λ (w : Words). record was { words = w; events = (reading tree was.script).past.events; node = root_id; begin = (reading tree was.script).counts 0; notes = no_kinds })
           (sym (ap (λ (e : NodeEnd). words_after e (node_meaning (root_of tree.domains) was.words) was.words) answer));
@@ -237,18 +237,18 @@ ends_escalated tree domain was m back later copies found begins one quiet orphan
     }
 
 -- the machine behind the copies of the first try
-pub run_starts : (law : CoveredReach) (tree : Outline) (domain : Domain) (was b m : Machine) (entries : List Entry)
+pub run_starts : (law : CoveredReach) (tree : TreeModel) (domain : Domain) (was b m : FieldModel) (entries : List Entry)
     → tree.domains ≡ domain ∷ [] → IsRunnable domain
     → ((p : Place) → node_reach (root_of tree.domains) p ≡ true → IsPresent was p)
     → IsAccepted tree was.script → was.events ≡ [] → b ≡ begun was root_id 1 → entries ≡ domain.entries
     → m ≡ told_all b (saved_from b.node 0 entries)
     → CanRun domain.entries m × IsReady domain was m (domain.retry - 1)
 run_starts law tree domain was b m entries one runs present accepted fresh b_is entries_are m_is =
-    let saved : Machine = told_all (begun was root_id 1) (saved_from root_id 0 domain.entries) in
+    let saved : FieldModel = told_all (begun was root_id 1) (saved_from root_id 0 domain.entries) in
     let m_exactly : m ≡ saved =
     m_is ∙ ap (λ (es : List Entry). told_all b (saved_from b.node 0 es)) entries_are
-    ∙ ap (λ (v : Machine). told_all v (saved_from v.node 0 domain.entries)) b_is in
-    let P : Machine → Type 0 = λ v. CanRun domain.entries v in
+    ∙ ap (λ (v : FieldModel). told_all v (saved_from v.node 0 domain.entries)) b_is in
+    let P : FieldModel → Type 0 = λ v. CanRun domain.entries v in
     let can : CanRun domain.entries saved = record {
       present = λ p h. (let there : IsPresent was p = present p (entries_reached tree domain p one h) in record { known = there.known; here = there.here });
       strikes = strikes_within law tree domain was.script one runs accepted;
@@ -256,24 +256,24 @@ run_starts law tree domain was b m entries one runs present accepted fresh b_is 
     (subst P (sym m_exactly) can, first_ready domain was m fresh m_exactly)
 
 -- when the one domain has begun, its entries are present
-pub present_begun : (tree : Outline) (domain : Domain) (was b : Machine) (entries : List Entry) → tree.domains ≡ domain ∷ []
+pub present_begun : (tree : TreeModel) (domain : Domain) (was b : FieldModel) (entries : List Entry) → tree.domains ≡ domain ∷ []
     → ((p : Place) → node_reach (root_of tree.domains) p ≡ true → IsPresent was p)
     → b ≡ begun was root_id 1 → entries ≡ domain.entries
     → (p : Place) → in_entries entries p ≡ true → IsPresent b p
 present_begun tree domain was b entries one present b_is entries_are p h =
     let P : List Entry → Type 0 = λ es. in_entries es p ≡ true in
     let there : IsPresent was p = present p (entries_reached tree domain p one (subst P entries_are h)) in
-    let Q : Machine → Type 0 = λ v. IsPresent v p in
+    let Q : FieldModel → Type 0 = λ v. IsPresent v p in
     subst Q (sym b_is) (record { known = there.known; here = there.here })
 
 -- the entries of the one domain were present
-pub entries_present : (tree : Outline) (domain : Domain) (was : Machine) → tree.domains ≡ domain ∷ []
+pub entries_present : (tree : TreeModel) (domain : Domain) (was : FieldModel) → tree.domains ≡ domain ∷ []
     → ((p : Place) → node_reach (root_of tree.domains) p ≡ true → IsPresent was p)
     → (p : Place) → in_entries domain.entries p ≡ true → IsPresent was p
 entries_present tree domain was one present p h = present p (entries_reached tree domain p one h)
 
 -- the end of a run in which nothing more was found
-pub finish_done : (tree : Outline) (domain : Domain) (was m later : Machine) (begins found : ℕ)
+pub finish_done : (tree : TreeModel) (domain : Domain) (was m later : FieldModel) (begins found : ℕ)
     → tree.domains ≡ domain ∷ [] → halting tree.kinds ≡ no_kinds → EndsClean (reading tree was.script).answer
     → EndsWith domain was m begins found → found ≡ no_kinds → later ≡ told_to m (Complete m.node)
     → HasEnded tree was later begins None
@@ -282,7 +282,7 @@ finish_done tree domain was m later begins found one quiet clean ends none later
     ends_done tree domain was m later (domain.retry - begins) begins one quiet clean (subst P none ends.behind) ends.number later_is
 
 -- the end of a run whose tries are used up
-pub finish_escalated : (tree : Outline) (domain : Domain) (was m back later : Machine) (copies : List (List ℕ)) (begins found : ℕ)
+pub finish_escalated : (tree : TreeModel) (domain : Domain) (was m back later : FieldModel) (copies : List (List ℕ)) (begins found : ℕ)
     → tree.domains ≡ domain ∷ [] → halting tree.kinds ≡ no_kinds → IsRunnable domain
     → ((p : Place) → in_entries domain.entries p ≡ true → IsPresent was p)
     → EndsWith domain was m begins found → (found ≡ no_kinds → ⊥) → copies ≡ copies_of was.words domain.entries
@@ -296,7 +296,7 @@ finish_escalated tree domain was m back later copies begins found one quiet runs
     (not_true _ (λ t. some (eqb-true _ _ t))) copied (subst P spare ends.behind) ends.number back_is later_is
 
 -- the copies are those of the words at the start
-pub copies_saved : (was b : Machine) (entries : List Entry) (domain : Domain) → b ≡ begun was root_id 1 → entries ≡ domain.entries
+pub copies_saved : (was b : FieldModel) (entries : List Entry) (domain : Domain) → b ≡ begun was root_id 1 → entries ≡ domain.entries
     → (copies : List (List ℕ)) → copies ≡ copies_of b.words entries → copies ≡ copies_of was.words domain.entries
 copies_saved was b entries domain b_is entries_are copies copies_are =
-    copies_are ∙ ap (λ (es : List Entry). copies_of b.words es) entries_are ∙ ap (λ (v : Machine). copies_of v.words domain.entries) b_is
+    copies_are ∙ ap (λ (es : List Entry). copies_of b.words es) entries_are ∙ ap (λ (v : FieldModel). copies_of v.words domain.entries) b_is

@@ -17,7 +17,7 @@ use Rattle.cd_tree.specs.Domains.{body_by}
 use Rattle.cd_tree.specs.Meaning.{in_entries}
 use Rattle.cd_tree.specs.Scripts.{struck, kinds_of}
 use Rattle.cd_tree.specs.Reading.{Counts, Past, silence, only_events, Told, told, after, TryEnd, Passed, Failed, Broken, NodeEnd, Done, Escalated, escalation, Try, arrived, unless_halted, detected, judged, ended, unless_failed, tries, read_points, counted, refilled_from}
-use Rattle.cd_field.specs.Machine.{Machine, IsPresent, hits_at, reached_point, begun}
+use Rattle.cd_field.specs.FieldModel.{FieldModel, IsPresent, hits_at, reached_point, begun}
 use Rattle.cd_core.specs.Copies.{copies_of, restored_from}
 use Rattle.cd_core.specs.Single.{Leads, quiet_case, plain_body, root_id, root_try, root_again, root_reading, item_run, run_from, tried, restarted, StaysWithin, CanRun, IsReady, IsTried}
 use Rattle.cd_core.proofs.Frames.{run_frame, runs_through, run-outside, run_meant}
@@ -45,14 +45,14 @@ arrived_quiet faults h point notes counts next =
     (and_zero_r kinds)
 
 -- what the reading tells of a try from a point to its judgement
-pub record RunLeads (detects : ℕ) (m : Machine) (point : ℕ) (items : List Item) (counts : Counts) : Type 0 where
+pub record RunLeads (detects : ℕ) (m : FieldModel) (point : ℕ) (items : List Item) (counts : Counts) : Type 0 where
   pub heard : List Event
   pub leads : Leads heard
       (read_points (quiet_case m.script) (body_by (λ id. None) items) (record { node = m.node; detects = detects; begin = m.begin }) point m.notes counts)
       (detected (record { node = m.node; detects = detects; begin = m.begin }) (run_from m point items).notes counts)
   pub events : (run_from m point items).events ≡ m.events ++ heard
 
-pub run_leads : (entries : List Entry) (detects : ℕ) (m : Machine) (point : ℕ) (items : List Item) (counts : Counts)
+pub run_leads : (entries : List Entry) (detects : ℕ) (m : FieldModel) (point : ℕ) (items : List Item) (counts : Counts)
     → StaysWithin entries items → RunLeads detects m point items counts
 unfolding read_points
 run_leads entries detects m point [] counts stays =
@@ -67,7 +67,7 @@ run_leads entries detects m point [] counts stays =
     }
 run_leads entries detects m point (Run op ∷ items) counts stays =
     let h : Try = record { node = m.node; detects = detects; begin = m.begin } in
-    let next : Machine = item_run (reached_point m point) (Run op) in
+    let next : FieldModel = item_run (reached_point m point) (Run op) in
     let rest : RunLeads detects next (suc point) items counts = run_leads entries detects next (suc point) items counts stays.1 in
     let go : ℕ → Told TryEnd = λ seen. read_points (quiet_case m.script) (body_by (λ id. None) items) h (suc point) seen counts in
     record {
@@ -128,17 +128,17 @@ pub detected_leads : (h : Try) (notes : ℕ) (counts : Counts)
 detected_leads h notes counts = record { heard = refl; counts = refl; answer = refl }
 
 -- the machine that is ready for a try
-abbrev pub ready_machine : Machine → List Event → ℕ → Machine
+abbrev pub ready_machine : FieldModel → List Event → ℕ → FieldModel
 ready_machine was events begin = record was { events = events; node = root_id; begin = begin; notes = no_kinds }
 
-tried_exactly : (domain : Domain) (was : Machine) (events : List Event) (begin spare : ℕ)
+tried_exactly : (domain : Domain) (was : FieldModel) (events : List Event) (begin spare : ℕ)
     → CanRun domain.entries (ready_machine was events begin) → StaysWithin domain.entries domain.items
     → IsReady domain was (ready_machine was events begin) spare
     → IsTried domain was (tried (ready_machine was events begin) domain) spare
     (bit_and (run_from (ready_machine was events begin) 0 domain.items).notes domain.detects)
 tried_exactly domain was events begin spare runs stays ready =
-    let m : Machine = ready_machine was events begin in
-    let ran : Machine = run_from m 0 domain.items in
+    let m : FieldModel = ready_machine was events begin in
+    let ran : FieldModel = run_from m 0 domain.items in
     let found : ℕ = bit_and ran.notes domain.detects in
     let follows : RunLeads domain.detects m 0 domain.items ready.counts = run_leads domain.entries domain.detects m 0 domain.items ready.counts stays in
     let frame : ran ≡ record m { words = ran.words; events = ran.events; notes = ran.notes } = run_frame m 0 domain.items in
@@ -150,46 +150,46 @@ tried_exactly domain was events begin spare runs stays ready =
     (tries spare root_id domain (root_again was.script domain) last) =
     leads_on events _ _ _ _ ready.leads (tries_lead _ spare root_id domain (root_again was.script domain) _ _ whole) in
     let heard : (tried m domain).events ≡ events ++ (follows.heard ++ Found root_id found ∷ []) =
-    ap (λ (id : NodeId). ran.events ++ Found id found ∷ []) (ap (λ (v : Machine). v.node) frame)
+    ap (λ (id : NodeId). ran.events ++ Found id found ∷ []) (ap (λ (v : FieldModel). v.node) frame)
     ∙ ap (λ (es : List Event). es ++ Found root_id found ∷ []) follows.events
     ∙ append_assoc events follows.heard (Found root_id found ∷ []) in
     let P : List Event → Type 0 = λ es. Leads es (root_reading was.script domain) (tries spare root_id domain (root_again was.script domain) last) in
     record {
       counts = ready.counts;
-      begin = ready.begin ∙ sym (ap (λ (v : Machine). v.begin) frame);
+      begin = ready.begin ∙ sym (ap (λ (v : FieldModel). v.begin) frame);
       leads = subst P (sym heard) all;
-      machine = ap (λ (v : Machine). record v { events = (tried m domain).events }) frame
+      machine = ap (λ (v : FieldModel). record v { events = (tried m domain).events }) frame
           ∙ ap (λ (b : ℕ). record was { words = ran.words; events = (tried m domain).events; node = root_id; begin = b; notes = ran.notes })
-          (sym (ap (λ (v : Machine). v.begin) frame));
+          (sym (ap (λ (v : FieldModel). v.begin) frame));
       outside = λ p out. run-outside domain.entries m 0 domain.items p out runs stays;
       known = λ p h. ((runs_through domain.entries m 0 domain.items runs).present p h).known;
       meant = λ none. run_meant domain.entries (λ id. None) m 0 domain.items runs stays none;
     }
 
 -- a machine that is ready, and the try that it makes
-pub tried_from_ready : (domain : Domain) (was m : Machine) (spare : ℕ)
+pub tried_from_ready : (domain : Domain) (was m : FieldModel) (spare : ℕ)
     → CanRun domain.entries m → StaysWithin domain.entries domain.items → IsReady domain was m spare
     → IsTried domain was (tried m domain) spare (bit_and (run_from m 0 domain.items).notes domain.detects)
 tried_from_ready domain was m spare runs stays ready =
-    let P : Machine → Type 0 = λ v.
+    let P : FieldModel → Type 0 = λ v.
     CanRun domain.entries v → IsReady domain was v spare
     → IsTried domain was (tried v domain) spare (bit_and (run_from v 0 domain.items).notes domain.detects) in
     subst P (sym ready.machine) (λ r i. tried_exactly domain was m.events m.begin spare r stays i) runs ready
 
 -- the machine behind a try
-abbrev pub tried_machine : Machine → Words → List Event → ℕ → ℕ → Machine
+abbrev pub tried_machine : FieldModel → Words → List Event → ℕ → ℕ → FieldModel
 tried_machine was words events begin notes =
     record was { words = words; events = events; node = root_id; begin = begin; notes = notes }
 
-restarted_exactly : (domain : Domain) (was : Machine) (words : Words) (events : List Event) (begin notes found spare : ℕ)
+restarted_exactly : (domain : Domain) (was : FieldModel) (words : Words) (events : List Event) (begin notes found spare : ℕ)
     → ((p : Place) → in_entries domain.entries p ≡ true → IsPresent was p)
     → (found == no_kinds) ≡ false
     → IsTried domain was (tried_machine was words events begin notes) (suc spare) found
     → IsReady domain was (restarted (tried_machine was words events begin notes) domain (copies_of was.words domain.entries) (begin + 1)) spare
 restarted_exactly domain was words events begin notes found spare present some behind =
-    let m : Machine = begun (tried_machine was words events begin notes) root_id (begin + 1) in
+    let m : FieldModel = begun (tried_machine was words events begin notes) root_id (begin + 1) in
     let copies : List (List ℕ) = copies_of was.words domain.entries in
-    let now : Machine = restored_from m 0 domain.entries copies in
+    let now : FieldModel = restored_from m 0 domain.entries copies in
     let frame : now ≡ record m { words = now.words; lost = now.lost; events = now.events } = restored-frame m 0 domain.entries copies in
     let events_are : now.events ≡ (events ++ Begin root_id (begin + 1) ∷ []) ++ refilled_from root_id 0 domain.entries =
     restored-events m 0 domain.entries copies (copies_fit was.words domain.entries) in
@@ -211,7 +211,7 @@ restarted_exactly domain was words events begin notes found spare present some b
     let all : Leads (events ++ heard) (root_reading was.script domain) (tries spare root_id domain again points) =
     leads_on events heard (root_reading was.script domain) (tries (suc spare) root_id domain again (told silence behind.counts failed))
     (tries spare root_id domain again points) (subst P judged_failed behind.leads) over in
-    let begin_is : behind.counts 0 + 1 ≡ now.begin = ap (λ (n : ℕ). n + 1) behind.begin ∙ sym (ap (λ (v : Machine). v.begin) frame) in
+    let begin_is : behind.counts 0 + 1 ≡ now.begin = ap (λ (n : ℕ). n + 1) behind.begin ∙ sym (ap (λ (v : FieldModel). v.begin) frame) in
     let heard_is : events ++ heard ≡ now.events =
     ap (λ (n : ℕ). events ++ (Begin root_id (n + 1) ∷ refilled_from root_id 0 domain.entries)) behind.begin
     ∙ sym (append_assoc events (Begin root_id (begin + 1) ∷ []) (refilled_from root_id 0 domain.entries))
@@ -226,16 +226,16 @@ restarted_exactly domain was words events begin notes found spare present some b
       machine = frame
           ∙ ap (λ (w : Words). record was { words = w; lost = now.lost; events = now.events; node = root_id; begin = begin + 1; notes = no_kinds }) words_are
           ∙ ap (λ (l : PlaceSet). record was { lost = l; events = now.events; node = root_id; begin = begin + 1; notes = no_kinds }) lost_is
-          ∙ ap (λ (b : ℕ). record was { events = now.events; node = root_id; begin = b; notes = no_kinds }) (sym (ap (λ (v : Machine). v.begin) frame));
+          ∙ ap (λ (b : ℕ). record was { events = now.events; node = root_id; begin = b; notes = no_kinds }) (sym (ap (λ (v : FieldModel). v.begin) frame));
     }
 
 -- behind a try that failed, a later try can begin
-pub ready_again : (domain : Domain) (was m : Machine) (found spare : ℕ)
+pub ready_again : (domain : Domain) (was m : FieldModel) (found spare : ℕ)
     → ((p : Place) → in_entries domain.entries p ≡ true → IsPresent was p)
     → (found == no_kinds) ≡ false
     → IsTried domain was m (suc spare) found
     → IsReady domain was (restarted m domain (copies_of was.words domain.entries) (m.begin + 1)) spare
 ready_again domain was m found spare present some behind =
-    let P : Machine → Type 0 = λ v. IsTried domain was v (suc spare) found
+    let P : FieldModel → Type 0 = λ v. IsTried domain was v (suc spare) found
     → IsReady domain was (restarted v domain (copies_of was.words domain.entries) (v.begin + 1)) spare in
     subst P (sym behind.machine) (λ b. restarted_exactly domain was m.words m.events m.begin m.notes found spare present some b) behind

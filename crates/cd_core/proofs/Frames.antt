@@ -17,14 +17,14 @@ use Rattle.cd_tree.specs.Domains.{Node, body_by}
 use Rattle.cd_tree.specs.Meaning.{in_entries, LieIn, body_meaning}
 use Rattle.cd_tree.specs.Operations.{op_writes, op_reads, op_meaning, column}
 use Rattle.cd_tree.specs.Scripts.{words_struck, kinds_of}
-use Rattle.cd_field.specs.Machine.{Machine, hits_at, reached_point}
+use Rattle.cd_field.specs.FieldModel.{FieldModel, hits_at, reached_point}
 use Rattle.cd_core.specs.Copies.{place_at}
 use Rattle.cd_core.specs.Single.{item_run, run_from, StaysWithin, CanRun}
 use Rattle.cd_core.proofs.Places.{same_from, not_true, chosen, other, or_left}
 use Rattle.cd_core.proofs.Points.{hits_within, runs_reached, runs_on}
 
 -- a try changes words, events and notes alone
-pub run_frame : (m : Machine) (point : ℕ) (items : List Item)
+pub run_frame : (m : FieldModel) (point : ℕ) (items : List Item)
     → run_from m point items
     ≡ record m { words = (run_from m point items).words; events = (run_from m point items).events; notes = (run_from m point items).notes }
 run_frame m point [] = refl
@@ -32,7 +32,7 @@ run_frame m point (Run op ∷ items) = run_frame (item_run (reached_point m poin
 run_frame m point (Group ids ∷ items) = run_frame (item_run (reached_point m point) (Group ids)) (suc point) items
 
 -- a machine that can run a body still can behind it
-pub runs_through : (entries : List Entry) (m : Machine) (point : ℕ) (items : List Item) → CanRun entries m
+pub runs_through : (entries : List Entry) (m : FieldModel) (point : ℕ) (items : List Item) → CanRun entries m
     → CanRun entries (run_from m point items)
 runs_through entries m point [] runs = runs_reached entries m point runs
 runs_through entries m point (item ∷ items) runs =
@@ -62,7 +62,7 @@ meant-outside entries op w p out lies =
     let there : in_entries entries p ≡ true = lies p (or_left (in_range (op_writes op) p) (in_ranges (op_reads op) p) t) in cc))
 
 -- a try leaves the words outside its entries
-pub run-outside : (entries : List Entry) (m : Machine) (point : ℕ) (items : List Item) (p : Place) → in_entries entries p ≡ false
+pub run-outside : (entries : List Entry) (m : FieldModel) (point : ℕ) (items : List Item) (p : Place) → in_entries entries p ≡ false
     → CanRun entries m → StaysWithin entries items → (run_from m point items).words p ≡ m.words p
 run-outside entries m point [] p out runs stays =
     struck-outside entries (hits_at m point) m.words p out (hits_within entries m point runs)
@@ -93,7 +93,7 @@ no_kinds-no_faults (fault ∷ faults) kinds none =
     absurd (kind_is_some fault.kind (kinds 0 fault (omega arith)) (none_left (only_kind fault.kind) (kinds_of faults) none))
 
 -- a try that ends without notes began without them
-pub quiet_before : (m : Machine) (point : ℕ) (items : List Item) → (run_from m point items).notes ≡ 0
+pub quiet_before : (m : FieldModel) (point : ℕ) (items : List Item) → (run_from m point items).notes ≡ 0
     → (m.notes ≡ 0) × (kinds_of (hits_at m point) ≡ 0)
 quiet_before m point [] none = (none_left m.notes _ none, none_right m.notes _ none)
 quiet_before m point (Run op ∷ items) none =
@@ -105,12 +105,12 @@ quiet_before m point (Group ids ∷ items) none =
     quiet_before (item_run (reached_point m point) (Group ids)) (suc point) items none in
     (none_left m.notes _ rest.0, none_right m.notes _ rest.0)
 
-quiet_hits : (entries : List Entry) (m : Machine) (point : ℕ) → CanRun entries m → kinds_of (hits_at m point) ≡ 0 → hits_at m point ≡ []
+quiet_hits : (entries : List Entry) (m : FieldModel) (point : ℕ) → CanRun entries m → kinds_of (hits_at m point) ≡ 0 → hits_at m point ≡ []
 quiet_hits entries m point runs none =
     no_kinds-no_faults (hits_at m point) (λ k d short. (hits_within entries m point runs k d short).1) none
 
 -- a try that ends without notes computes what its body means
-pub run_meant : (entries : List Entry) (find : NodeId → Option Node) (m : Machine) (point : ℕ) (items : List Item)
+pub run_meant : (entries : List Entry) (find : NodeId → Option Node) (m : FieldModel) (point : ℕ) (items : List Item)
     → CanRun entries m → StaysWithin entries items → (run_from m point items).notes ≡ 0
     → (run_from m point items).words ≡ body_meaning (body_by find items) m.words
 run_meant entries find m point [] runs stays none =

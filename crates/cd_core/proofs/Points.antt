@@ -12,7 +12,7 @@ use Rattle.cd_tree.specs.declared.operation.Op.{Op}
 use Rattle.cd_tree.specs.Meaning.{in_entries}
 use Rattle.cd_tree.specs.Operations.{op_writes, op_meaning, column}
 use Rattle.cd_tree.specs.Scripts.{strikes_at, words_struck}
-use Rattle.cd_field.specs.Machine.{Machine, IsPresent, hits_at, reached_point}
+use Rattle.cd_field.specs.FieldModel.{FieldModel, IsPresent, hits_at, reached_point}
 use Rattle.cd_core.specs.Single.{item_run, run_from, ItemStaysWithin, StaysWithin, CanRun}
 use Rattle.cd_core.proofs.Places.{by_test, chosen, other}
 
@@ -35,7 +35,7 @@ meant-known op w p known =
     (λ f. subst Q (sym (other (in_range (op_writes op) p) (Some (column op w (p.index - (op_writes op).low))) (w p) f)) known)
 
 -- the faults that strike at a point strike in the entries, and have kinds
-pub hits_within : (entries : List Entry) (m : Machine) (point : ℕ) → CanRun entries m
+pub hits_within : (entries : List Entry) (m : FieldModel) (point : ℕ) → CanRun entries m
     → All (λ (fault : Fault). (in_entries entries fault.place ≡ true) × (fault.kind.0 < 16)) (hits_at m point)
 hits_within entries m point runs k d short =
     let fault : Fault = get_or (hits_at m point) k d in
@@ -47,12 +47,12 @@ hits_within entries m point runs k d short =
     (λ (f : Fault). f.node.0 ≡ m.node.0 → (in_entries entries f.place ≡ true) × (f.kind.0 < 16)) m.script runs.strikes k d short
     (eqb-true _ _ both.0)
 
-pub hits_present : (entries : List Entry) (m : Machine) (point : ℕ) → CanRun entries m
+pub hits_present : (entries : List Entry) (m : FieldModel) (point : ℕ) → CanRun entries m
     → All (λ (fault : Fault). IsPresent m fault.place) (hits_at m point)
 hits_present entries m point runs k d short = runs.present _ (hits_within entries m point runs k d short).0
 
 -- a machine that can run still can behind a point
-pub runs_reached : (entries : List Entry) (m : Machine) (point : ℕ) → CanRun entries m → CanRun entries (reached_point m point)
+pub runs_reached : (entries : List Entry) (m : FieldModel) (point : ℕ) → CanRun entries m → CanRun entries (reached_point m point)
 runs_reached entries m point runs = record {
   present = λ p h.
       let before : IsPresent m p = runs.present p h in
@@ -60,7 +60,7 @@ runs_reached entries m point runs = record {
   strikes = runs.strikes;
 }
 
-pub runs_on : (entries : List Entry) (m : Machine) (item : Item) → CanRun entries m → CanRun entries (item_run m item)
+pub runs_on : (entries : List Entry) (m : FieldModel) (item : Item) → CanRun entries m → CanRun entries (item_run m item)
 runs_on entries m (Run op) runs = record {
   present = λ p h.
       let before : IsPresent m p = runs.present p h in
@@ -70,12 +70,12 @@ runs_on entries m (Run op) runs = record {
 runs_on entries m (Group ids) runs = runs
 
 -- one item more is run
-pub item_passed : (m reached ran whole : Machine) (k : ℕ) (items : List Item) (item : Item)
+pub item_passed : (m reached ran whole : FieldModel) (k : ℕ) (items : List Item) (item : Item)
     → drop k items ≡ item ∷ drop (k + 1) items → reached ≡ reached_point m k → ran ≡ item_run reached item
     → run_from m k (drop k items) ≡ whole → run_from ran (k + 1) (drop (k + 1) items) ≡ whole
 item_passed m reached ran whole k items item e reached_is ran_is left =
-    let next : ran ≡ item_run (reached_point m k) item = ran_is ∙ ap (λ (v : Machine). item_run v item) reached_is in
-    ap (λ (v : Machine). run_from v (k + 1) (drop (k + 1) items)) next
+    let next : ran ≡ item_run (reached_point m k) item = ran_is ∙ ap (λ (v : FieldModel). item_run v item) reached_is in
+    ap (λ (v : FieldModel). run_from v (k + 1) (drop (k + 1) items)) next
     ∙ ap (λ (n : ℕ). run_from (item_run (reached_point m k) item) n (drop (k + 1) items)) (add-one k)
     ∙ sym (ap (λ (is : List Item). run_from m k is) e)
     ∙ left

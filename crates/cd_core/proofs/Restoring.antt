@@ -10,19 +10,19 @@ use Rattle.cd_tree.specs.declared.event.Event.TheVariants.{Refilled}
 use Rattle.cd_tree.specs.Meaning.{in_entries}
 use Rattle.cd_tree.specs.Operations.{length_of}
 use Rattle.cd_tree.specs.Reading.{refilled_from}
-use Rattle.cd_field.specs.Machine.{Machine, IsPresent, told, refilled_word}
+use Rattle.cd_field.specs.FieldModel.{FieldModel, IsPresent, told, refilled_word}
 use Rattle.cd_core.specs.Copies.{place_at, words_from, words_of, copies_of, put_back, restored_from, AreCopies}
 use Rattle.cd_core.specs.Single.{CanRun}
 use Rattle.cd_core.proofs.Places.{Inside, inside_from, inside_to, same_from, same_to, by_test, not_true, chosen, other, or_left, or_right}
 use Rattle.cd_core.proofs.Copying.{put_back-node}
 
 -- putting words back changes words and what is lost alone
-pub put_back-frame : (m : Machine) (region at : ℕ) (words : List ℕ)
+pub put_back-frame : (m : FieldModel) (region at : ℕ) (words : List ℕ)
     → put_back m region at words ≡ record m { words = (put_back m region at words).words; lost = (put_back m region at words).lost }
 put_back-frame m region at [] = refl
 put_back-frame m region at (word ∷ words) = put_back-frame (refilled_word m (place_at region at) word) region (suc at) words
 
-pub restored-frame : (m : Machine) (at : ℕ) (entries : List Entry) (copies : List (List ℕ))
+pub restored-frame : (m : FieldModel) (at : ℕ) (entries : List Entry) (copies : List (List ℕ))
     → restored_from m at entries copies
     ≡ record m {
       words = (restored_from m at entries copies).words;
@@ -32,10 +32,10 @@ pub restored-frame : (m : Machine) (at : ℕ) (entries : List Entry) (copies : L
 restored-frame m at [] copies = refl
 restored-frame m at (entry ∷ entries) [] = refl
 restored-frame m at (entry ∷ entries) (words ∷ copies) =
-    let next : Machine = told (put_back m entry.range.region entry.range.low words) (Refilled m.node at) in
-    let rest : Machine = restored_from next (suc at) entries copies in
+    let next : FieldModel = told (put_back m entry.range.region entry.range.low words) (Refilled m.node at) in
+    let rest : FieldModel = restored_from next (suc at) entries copies in
     restored-frame next (suc at) entries copies
-    ∙ ap (λ (v : Machine). record v { words = rest.words; lost = rest.lost; events = rest.events })
+    ∙ ap (λ (v : FieldModel). record v { words = rest.words; lost = rest.lost; events = rest.events })
     (put_back-frame m entry.range.region entry.range.low words)
 
 pub some_word : (o : Option ℕ) → IsSome o → Some (unwrap_or o 0) ≡ o
@@ -43,7 +43,7 @@ some_word None h = absurd (cc)
 some_word (Some x) h = refl
 
 -- a place outside keeps what is known of it, and a place inside has the copied word
-pub put_back-words : (w : Words) (m : Machine) (region at n : ℕ) (p : Place)
+pub put_back-words : (w : Words) (m : FieldModel) (region at n : ℕ) (p : Place)
     → (p.region ≡ region → at ≤ p.index → p.index < at + n → IsSome (w p))
     → ((p.region ≡ region → at ≤ p.index → p.index < at + n → ⊥) → m.words p ≡ w p)
     → (put_back m region at (words_from w region at n)).words p ≡ w p
@@ -65,7 +65,7 @@ put_back-words w m region at (suc n) p known outside =
     out r (omega arith) (omega arith))))
 
 -- presence is not lost
-pub put_back-lost : (m : Machine) (region at : ℕ) (words : List ℕ) (p : Place)
+pub put_back-lost : (m : FieldModel) (region at : ℕ) (words : List ℕ) (p : Place)
     → (p.region ≡ region → at ≤ p.index → p.index < at + length words → m.lost p ≡ false)
     → (put_back m region at words).lost p ≡ m.lost p
 put_back-lost m region at [] p here = refl
@@ -89,7 +89,7 @@ copies_fit w [] = tt
 copies_fit w (entry ∷ entries) = (length-words_from w entry.range.region entry.range.low (length_of entry.range), copies_fit w entries)
 
 -- restored entries have the words of their copies; other places keep theirs
-pub restored-words : (w : Words) (m : Machine) (at : ℕ) (entries : List Entry) (p : Place)
+pub restored-words : (w : Words) (m : FieldModel) (at : ℕ) (entries : List Entry) (p : Place)
     → (in_entries entries p ≡ true → IsSome (w p))
     → (in_entries entries p ≡ false → m.words p ≡ w p)
     → (restored_from m at entries (copies_of w entries)).words p ≡ w p
@@ -107,7 +107,7 @@ restored-words w m at (entry ∷ entries) p known outside =
     out (sym i.region) low (omega (arith, high, low))) in
     rw (g, f) refl)))
 
-pub restored-lost : (m : Machine) (at : ℕ) (entries : List Entry) (copies : List (List ℕ)) (p : Place) → AreCopies entries copies
+pub restored-lost : (m : FieldModel) (at : ℕ) (entries : List Entry) (copies : List (List ℕ)) (p : Place) → AreCopies entries copies
     → (in_entries entries p ≡ true → m.lost p ≡ false) → (restored_from m at entries copies).lost p ≡ m.lost p
 restored-lost m at [] copies p fits here = refl
 restored-lost m at (entry ∷ entries) [] p fits here = absurd fits
@@ -122,21 +122,21 @@ restored-lost m at (entry ∷ entries) (words ∷ copies) p fits here =
     ∙ one
 
 -- the record tells of each entry
-pub restored-events : (m : Machine) (at : ℕ) (entries : List Entry) (copies : List (List ℕ)) → AreCopies entries copies
+pub restored-events : (m : FieldModel) (at : ℕ) (entries : List Entry) (copies : List (List ℕ)) → AreCopies entries copies
     → (restored_from m at entries copies).events ≡ m.events ++ refilled_from m.node at entries
 restored-events m at [] copies fits = sym (append-nil m.events)
 restored-events m at (entry ∷ entries) [] fits = absurd fits
 restored-events m at (entry ∷ entries) (words ∷ copies) fits =
-    let back : Machine = put_back m entry.range.region entry.range.low words in
-    let next : Machine = told back (Refilled m.node at) in
-    let events : back.events ≡ m.events = ap (λ (v : Machine). v.events) (put_back-frame m entry.range.region entry.range.low words) in
+    let back : FieldModel = put_back m entry.range.region entry.range.low words in
+    let next : FieldModel = told back (Refilled m.node at) in
+    let events : back.events ≡ m.events = ap (λ (v : FieldModel). v.events) (put_back-frame m entry.range.region entry.range.low words) in
     let id : back.node ≡ m.node = put_back-node m entry.range.region entry.range.low words in
     restored-events next (suc at) entries copies fits.1
     ∙ ap (λ (es : List Event). (es ++ Refilled m.node at ∷ []) ++ refilled_from back.node (suc at) entries) events
     ∙ ap (λ (n : NodeId). (m.events ++ Refilled m.node at ∷ []) ++ refilled_from n (suc at) entries) id
     ∙ append_assoc m.events (Refilled m.node at ∷ []) (refilled_from m.node (suc at) entries)
 
-runs_back : (all : List Entry) (m : Machine) (region at : ℕ) (words : List ℕ) → CanRun all m → CanRun all (put_back m region at words)
+runs_back : (all : List Entry) (m : FieldModel) (region at : ℕ) (words : List ℕ) → CanRun all m → CanRun all (put_back m region at words)
 runs_back all m region at [] runs = runs
 runs_back all m region at (word ∷ words) runs =
     runs_back all (refilled_word m (place_at region at) word) region (suc at) words (record {
@@ -154,14 +154,14 @@ runs_back all m region at (word ∷ words) runs =
       strikes = runs.strikes;
     })
 
-runs_put : (all : List Entry) (m : Machine) (region low : ℕ) (words : List ℕ) (at : ℕ) → CanRun all m
+runs_put : (all : List Entry) (m : FieldModel) (region low : ℕ) (words : List ℕ) (at : ℕ) → CanRun all m
     → CanRun all (told (put_back m region low words) (Refilled m.node at))
 runs_put all m region low words at runs =
     let back : CanRun all (put_back m region low words) = runs_back all m region low words runs in
     record { present = λ p h. (let there : IsPresent (put_back m region low words) p = back.present p h in record { known = there.known; here = there.here }); strikes = back.strikes }
 
 -- a machine that can run a body still can when its entries are restored
-pub runs_restored : (all : List Entry) (m : Machine) (at : ℕ) (entries : List Entry) (copies : List (List ℕ)) → CanRun all m
+pub runs_restored : (all : List Entry) (m : FieldModel) (at : ℕ) (entries : List Entry) (copies : List (List ℕ)) → CanRun all m
     → CanRun all (restored_from m at entries copies)
 runs_restored all m at [] copies runs = runs
 runs_restored all m at (entry ∷ entries) [] runs = runs

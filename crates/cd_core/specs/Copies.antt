@@ -7,7 +7,7 @@ use Rattle.cd_tree.specs.declared.domain.Entry.{Entry}
 use Rattle.cd_tree.specs.declared.event.Event.{Event}
 use Rattle.cd_tree.specs.declared.event.Event.TheVariants.{Refilled}
 use Rattle.cd_tree.specs.Operations.{length_of}
-use Rattle.cd_field.specs.Machine.{Machine, told, refilled_word}
+use Rattle.cd_field.specs.FieldModel.{FieldModel, told, refilled_word}
 
 abbrev pub place_at : ℕ → ℕ → Place
 place_at region index = record { region = region; index = index }
@@ -27,12 +27,12 @@ copies_of w [] = []
 copies_of w (entry ∷ entries) = words_of w entry.range ∷ copies_of w entries
 
 -- the machine after words were put back from an index on
-abbrev pub put_back : Machine → ℕ → ℕ → List ℕ → Machine
+abbrev pub put_back : FieldModel → ℕ → ℕ → List ℕ → FieldModel
 put_back m region at [] = m
 put_back m region at (word ∷ words) = put_back (refilled_word m (place_at region at) word) region (suc at) words
 
 -- the machine after entries, numbered from `at` on, were put back from their copies
-abbrev pub restored_from : Machine → ℕ → List Entry → List (List ℕ) → Machine
+abbrev pub restored_from : FieldModel → ℕ → List Entry → List (List ℕ) → FieldModel
 restored_from m at [] copies = m
 restored_from m at (entry ∷ entries) [] = m
 restored_from m at (entry ∷ entries) (words ∷ copies) =
@@ -45,5 +45,5 @@ AreCopies (entry ∷ entries) [] = ⊥
 AreCopies (entry ∷ entries) (words ∷ copies) = (length words ≡ length_of entry.range) × AreCopies entries copies
 
 -- the machine after events were told in order
-abbrev pub told_all : Machine → List Event → Machine
+abbrev pub told_all : FieldModel → List Event → FieldModel
 told_all m events = record m { events = m.events ++ events }

@@ -14,23 +14,23 @@ use Rattle.cd_tree.specs.declared.event.Event.TheVariants.{Found}
 use Rattle.cd_tree.specs.KindSets.{no_kinds, halting}
 use Rattle.cd_tree.specs.Operations.{op_reads, op_writes, FitsShape, IsFull}
 use Rattle.cd_tree.specs.Domains.{Body, node, body_by, root_of}
-use Rattle.cd_tree.specs.Outlines.{Outline}
+use Rattle.cd_tree.specs.TreeModel.{TreeModel}
 use Rattle.cd_tree.specs.Meaning.{in_entries, LieIn, IsCovered, node_meaning}
 use Rattle.cd_tree.specs.Reading.{Told, NodeEnd, Done, Escalated, Case, Counts, no_begins, Try, TryEnd, read_node, read_points, tries, begun as begun_at, told as told_of, silence, judged}
-use Rattle.cd_field.specs.Machine.{Machine, IsPresent, told, begun, reached_point}
+use Rattle.cd_field.specs.FieldModel.{FieldModel, IsPresent, told, begun, reached_point}
 use Rattle.cd_kernel.specs.Computing.{computed}
 use Rattle.cd_core.specs.Copies.{restored_from}
 
 -- every entry is preserved by a copy
-abbrev pub OnlyCopies : Outline → Type 0
+abbrev pub OnlyCopies : TreeModel → Type 0
 OnlyCopies tree = All (λ (domain : Domain). All (λ (entry : Entry). entry.how ≡ how.Copy) domain.entries) tree.domains
 
 -- no kind of the program halts
-abbrev pub NeverHalts : Outline → Type 0
+abbrev pub NeverHalts : TreeModel → Type 0
 NeverHalts tree = halting tree.kinds ≡ no_kinds
 
 -- what the first engine runs: one domain that is covered, whose entries are copies and whose kinds never halt
-pub record IsSimple (tree : Outline) : Type 0 where
+pub record IsSimple (tree : TreeModel) : Type 0 where
   pub one : length tree.domains ≡ 1
   pub copies : OnlyCopies tree
   pub quiet : NeverHalts tree
@@ -45,7 +45,7 @@ words_after (Done leak) meant was = meant
 words_after (Escalated cause over) meant was = was
 
 -- the machine after a run that read as told
-abbrev pub machine_after : Outline → Told NodeEnd → Machine → Machine
+abbrev pub machine_after : TreeModel → Told NodeEnd → FieldModel → FieldModel
 machine_after tree t was = record was {
   words = words_after t.answer (node_meaning (root_of tree.domains) was.words) was.words;
   events = t.past.events;
@@ -55,25 +55,25 @@ machine_after tree t was = record was {
 }
 
 -- the machine after an item
-abbrev pub item_run : Machine → Item → Machine
+abbrev pub item_run : FieldModel → Item → FieldModel
 item_run m (Run op) = computed m op
 item_run m (Group ids) = m
 
 -- the machine after a try's points, from one on: at each its faults strike, then its item runs
-abbrev pub run_from : Machine → ℕ → List Item → Machine
+abbrev pub run_from : FieldModel → ℕ → List Item → FieldModel
 run_from m point [] = reached_point m point
 run_from m point (item ∷ items) = run_from (item_run (reached_point m point) item) (suc point) items
 
 -- the machine where a later try's points begin: the domain has begun, and its entries are restored
-abbrev pub restarted : Machine → Domain → List (List ℕ) → ℕ → Machine
+abbrev pub restarted : FieldModel → Domain → List (List ℕ) → ℕ → FieldModel
 restarted m domain copies begins = restored_from (begun m root_id begins) 0 domain.entries copies
 
 -- the machine after a try's judgement: the declared kinds among its notes are found
-abbrev pub judged_by : Machine → ℕ → Machine
+abbrev pub judged_by : FieldModel → ℕ → FieldModel
 judged_by m detects = told m (Found m.node (bit_and m.notes detects))
 
 -- the machine after a whole try
-abbrev pub tried : Machine → Domain → Machine
+abbrev pub tried : FieldModel → Domain → FieldModel
 tried m domain = judged_by (run_from m 0 domain.items) domain.detects
 
 -- an operation has its shape, and touches places of the entries alone
@@ -88,7 +88,7 @@ StaysWithin entries [] = Unit {0}
 StaysWithin entries (item ∷ items) = ItemStaysWithin entries item × StaysWithin entries items
 
 -- a machine on which a domain's body can run: its entries are present, and its faults strike there with kinds
-pub record CanRun (entries : List Entry) (m : Machine) : Type 0 where
+pub record CanRun (entries : List Entry) (m : FieldModel) : Type 0 where
   pub present : (p : Place) → in_entries entries p ≡ true → IsPresent m p
   pub strikes : All (λ (fault : Fault). fault.node.0 ≡ m.node.0 → (in_entries entries fault.place ≡ true) × (fault.kind.0 < 16)) m.script
 
@@ -120,7 +120,7 @@ abbrev pub root_reading : List Fault → Domain → Told NodeEnd
 root_reading faults domain = read_node (quiet_case faults) (node root_id domain (plain_body domain)) no_begins
 
 -- the machine stands before a try's first point: its record and what is still to be read are the reading
-pub record IsReady (domain : Domain) (was m : Machine) (spare : ℕ) : Type 0 where
+pub record IsReady (domain : Domain) (was m : FieldModel) (spare : ℕ) : Type 0 where
   pub counts : Counts
   pub begin : counts 0 ≡ m.begin
   pub leads : Leads m.events (root_reading was.script domain)
@@ -129,7 +129,7 @@ pub record IsReady (domain : Domain) (was m : Machine) (spare : ℕ) : Type 0 wh
   pub machine : m ≡ record was { events = m.events; node = root_id; begin = m.begin; notes = no_kinds }
 
 -- the machine stands behind a try in which these kinds were found
-pub record IsTried (domain : Domain) (was m : Machine) (spare found : ℕ) : Type 0 where
+pub record IsTried (domain : Domain) (was m : FieldModel) (spare found : ℕ) : Type 0 where
   pub counts : Counts
   pub begin : counts 0 ≡ m.begin
   pub leads : Leads m.events (root_reading was.script domain)
@@ -141,7 +141,7 @@ pub record IsTried (domain : Domain) (was m : Machine) (spare found : ℕ) : Typ
   pub meant : m.notes ≡ no_kinds → m.words ≡ node_meaning (node root_id domain (plain_body domain)) was.words
 
 -- a domain's last try: nothing was found in it, or no try is left
-pub record EndsWith (domain : Domain) (was m : Machine) (begins found : ℕ) : Type 0 where
+pub record EndsWith (domain : Domain) (was m : FieldModel) (begins found : ℕ) : Type 0 where
   pub number : m.begin ≡ begins
   pub last : (found ≡ no_kinds) ⊎ (begins ≡ domain.retry)
   pub behind : IsTried domain was m (domain.retry - begins) found

@@ -6,7 +6,7 @@ ghost use Rattle.cd_tree.specs.Operations.{IsFull};
 ghost use Rattle.cd_tree.specs.Meaning.{in_entries, node_reach};
 ghost use Rattle.cd_tree.specs.Scripts.{IsAccepted};
 ghost use Rattle.cd_tree.specs.Record.{reading, cause_of};
-ghost use Rattle.cd_field.specs.Machine.{Machine, IsPresent};
+ghost use Rattle.cd_field.specs.FieldModel.{FieldModel, IsPresent};
 ghost use Rattle.cd_core.specs.Copies.{copies_of, AreCopies};
 ghost use Rattle.cd_core.specs.Single.{IsSimple, machine_after, run_from, item_run, tried, ItemStaysWithin, StaysWithin, CanRun, IsReady, EndsWith, root_id, restarted};
 
@@ -25,13 +25,13 @@ pub fn run_one<F: Field>(
     field: &mut F,
 ) -> Result<(u64, Option<Cause>), NoMemory>
     requires simple { IsSimple tree.now }
-    requires present { (p : _) → node_reach (root_of tree.now.domains) p ≡ true → IsPresent (F.state field.old) p }
-    requires events { (F.state field.old).events ≡ [] }
-    requires notes { (F.state field.old).notes ≡ no_kinds }
-    requires accepted { IsAccepted tree.now (F.state field.old).script }
-    ensures machine { OnOk result (F.state field.new ≡ machine_after tree.now (reading tree.now (F.state field.old).script) (F.state field.old)) }
-    ensures begins { IfOk result (λ ran. ran.0 ≡ (reading tree.now (F.state field.old).script).counts 0) }
-    ensures cause { IfOk result (λ ran. ran.1 ≡ cause_of tree.now.domains (reading tree.now (F.state field.old).script).answer) }
+    requires present { (p : _) → node_reach (root_of tree.now.domains) p ≡ true → IsPresent (F.model field.old) p }
+    requires events { (F.model field.old).events ≡ [] }
+    requires notes { (F.model field.old).notes ≡ no_kinds }
+    requires accepted { IsAccepted tree.now (F.model field.old).script }
+    ensures machine { OnOk result (F.model field.new ≡ machine_after tree.now (reading tree.now (F.model field.old).script) (F.model field.old)) }
+    ensures begins { IfOk result (λ ran. ran.0 ≡ (reading tree.now (F.model field.old).script).counts 0) }
+    ensures cause { IfOk result (λ ran. ran.1 ≡ cause_of tree.now.domains (reading tree.now (F.model field.old).script).answer) }
     ensures path { IfOk result (λ ran. IfSome ran.1 (λ cause. cause.path ≡ root_id ∷ [])) }
 {
     prove!(tree.count() == 1);
@@ -70,11 +70,11 @@ fn run_tries<F: Field>(
     requires some { 0 < domain.now.retry }
     requires full { All (λ entry. IsFull entry.range) domain.now.entries }
     requires within { StaysWithin domain.now.entries domain.now.items }
-    requires runs { CanRun domain.now.entries (F.state field.old) }
-    requires copied { copies.now ≡ copies_of (F.state field.old).words domain.now.entries }
-    requires root { (F.state field.old).node ≡ root_id }
-    requires first { (F.state field.old).begin ≡ 1 }
-    ensures { IfOk result (λ last. (was : Machine) → IsReady domain.now was (F.state field.old) (domain.now.retry - 1) → EndsWith domain.now was (F.state field.new) last.begins last.found) }
+    requires runs { CanRun domain.now.entries (F.model field.old) }
+    requires copied { copies.now ≡ copies_of (F.model field.old).words domain.now.entries }
+    requires root { (F.model field.old).node ≡ root_id }
+    requires first { (F.model field.old).begin ≡ 1 }
+    ensures { IfOk result (λ last. (was : FieldModel) → IsReady domain.now was (F.model field.old) (domain.now.retry - 1) → EndsWith domain.now was (F.model field.new) last.begins last.found) }
 {
     let mut begins = 1;
     let mut found = run_try(domain, field)?;
@@ -94,11 +94,11 @@ fn try_again<F: Field>(
 ) -> Result<Kinds, NoMemory>
     requires full { All (λ entry. IsFull entry.range) domain.now.entries }
     requires within { StaysWithin domain.now.entries domain.now.items }
-    requires runs { CanRun domain.now.entries (F.state field.old) }
-    requires root { (F.state field.old).node ≡ root_id }
+    requires runs { CanRun domain.now.entries (F.model field.old) }
+    requires root { (F.model field.old).node ≡ root_id }
     requires fits { AreCopies domain.now.entries copies.now }
-    ensures machine { OnOk result (F.state field.new ≡ tried (restarted (F.state field.old) domain.now copies.now begins) domain.now) }
-    ensures found { IfOk result (λ found. found ≡ bit_and (run_from (restarted (F.state field.old) domain.now copies.now begins) 0 domain.now.items).notes domain.now.detects) }
+    ensures machine { OnOk result (F.model field.new ≡ tried (restarted (F.model field.old) domain.now copies.now begins) domain.now) }
+    ensures found { IfOk result (λ found. found ≡ bit_and (run_from (restarted (F.model field.old) domain.now copies.now begins) 0 domain.now.items).notes domain.now.detects) }
 {
     field.begin(NodeId(0), begins)?;
     restore_all(domain.entries.items(), copies, field)?;
@@ -108,9 +108,9 @@ fn try_again<F: Field>(
 // One try, from its first point to its judgement.
 fn run_try<F: Field>(domain: &Domain, field: &mut F) -> Result<Kinds, NoMemory>
     requires within { StaysWithin domain.now.entries domain.now.items }
-    requires runs { CanRun domain.now.entries (F.state field.old) }
-    ensures machine { OnOk result (F.state field.new ≡ tried (F.state field.old) domain.now) }
-    ensures found { IfOk result (λ found. found ≡ bit_and (run_from (F.state field.old) 0 domain.now.items).notes domain.now.detects) }
+    requires runs { CanRun domain.now.entries (F.model field.old) }
+    ensures machine { OnOk result (F.model field.new ≡ tried (F.model field.old) domain.now) }
+    ensures found { IfOk result (λ found. found ≡ bit_and (run_from (F.model field.old) 0 domain.now.items).notes domain.now.detects) }
 {
     run_points(domain, field)?;
     let found = field.notes().meet(domain.detects);
@@ -121,8 +121,8 @@ fn run_try<F: Field>(domain: &Domain, field: &mut F) -> Result<Kinds, NoMemory>
 // The points of a try, each followed by its item.
 fn run_points<F: Field>(domain: &Domain, field: &mut F) -> Result<(), NoMemory>
     requires within { StaysWithin domain.now.entries domain.now.items }
-    requires runs { CanRun domain.now.entries (F.state field.old) }
-    ensures { OnOk result (F.state field.new ≡ run_from (F.state field.old) 0 domain.now.items) }
+    requires runs { CanRun domain.now.entries (F.model field.old) }
+    ensures { OnOk result (F.model field.new ≡ run_from (F.model field.old) 0 domain.now.items) }
 {
     let items = domain.items.items();
     for (point, item) in items.iter().enumerate() {
@@ -135,8 +135,8 @@ fn run_points<F: Field>(domain: &Domain, field: &mut F) -> Result<(), NoMemory>
 // The operation of an item.
 fn run_item<F: Field>(domain: &Domain, item: &Item, field: &mut F)
     requires within { ItemStaysWithin domain.now.entries item.now }
-    requires runs { CanRun domain.now.entries (F.state field.old) }
-    ensures { F.state field.new ≡ item_run (F.state field.old) item.now }
+    requires runs { CanRun domain.now.entries (F.model field.old) }
+    ensures { F.model field.new ≡ item_run (F.model field.old) item.now }
 {
     match item {
         Item::Run(op) => apply(op, field),

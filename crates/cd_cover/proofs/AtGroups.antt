@@ -13,7 +13,7 @@ use Rattle.cd_tree.specs.declared.domain.Item.TheVariants.{Run, Group}
 use Rattle.cd_tree.specs.declared.domain.Domain.{Domain}
 use Rattle.cd_tree.specs.declared.groups.GroupPlace.{GroupPlace}
 use Rattle.cd_tree.specs.Operations.{op_writes}
-use Rattle.cd_tree.specs.Outlines.{FitsItems}
+use Rattle.cd_tree.specs.TreeModel.{FitsItems}
 use Rattle.cd_tree.specs.Domains.{Node, body_of, body_by, members_by, node_of}
 use Rattle.cd_tree.specs.FirstItems.{first_items, waiting_words}
 use Rattle.cd_tree.specs.Groups.{HasMember, StandsAt, StandsIn}
@@ -25,7 +25,7 @@ use Rattle.cd_tree.specs.Laws.{NestedViewFollows, ParentsComeFirst, PathsGoDown}
 use Rattle.cd_cover.specs.Links.{has_member, written_before, link_of, holds_range}
 use Rattle.cd_cover.specs.Laws.{HoldsLink, LinksLead}
 use Rattle.cd_cover.specs.Outer.{outer_references}
-use Rattle.cd_cover.specs.Plans.{Planned, IsPlan}
+use Rattle.cd_cover.specs.Plans.{PlanModel, IsPlan}
 use Rattle.cd_cover.specs.OuterLaws.{IsChild, LinksTo, OuterAreFresh, OuterOfMembers}
 use Rattle.cd_cover.specs.KeptWords.{WrittenByFirstItems, OuterWordsStay, AgreeWithLinks, AgreeWithEntries, LinksServeMembers}
 use Rattle.cd_cover.proofs.Views.{some_of, some_and, has_member-members_by}
@@ -161,7 +161,7 @@ in_holder outer r p holds inside =
     (lt-ltb p.index outer.high (omega arith)))
 
 -- what a domain began with agrees with what the link of a member's outer reference keeps
-began_with : OuterOfMembers → LinksLead → MembersAreChildren → (plan : Planned) → IsPlan plan → (parent id : NodeId) (at : GroupPlace) (above d : Node)
+began_with : OuterOfMembers → LinksLead → MembersAreChildren → (plan : PlanModel) → IsPlan plan → (parent id : NodeId) (at : GroupPlace) (above d : Node)
     → node_of plan.tree.domains parent ≡ Some above → node_of plan.tree.domains id ≡ Some d → StandsIn plan.tree.domains parent id at
     → (kept : NodeId × ℕ → Words) (begun : Words)
     → AgreeWithLinks plan.tree.domains above kept begun → AgreeWithEntries plan.tree.domains parent kept begun

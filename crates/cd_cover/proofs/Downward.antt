@@ -8,7 +8,7 @@ use Rattle.cd_tree.specs.declared.domain.NodeId.{NodeId}
 use Rattle.cd_tree.specs.declared.domain.Item.{Item}
 use Rattle.cd_tree.specs.declared.domain.Item.TheVariants.{Run, Group}
 use Rattle.cd_tree.specs.declared.domain.Domain.{Domain}
-use Rattle.cd_tree.specs.Outlines.{Outline, IsTree, FitsItems, NamesChildren}
+use Rattle.cd_tree.specs.TreeModel.{TreeModel, IsTree, FitsItems, NamesChildren}
 use Rattle.cd_tree.specs.Domains.{Node, Members, node, put_first, members_by, body_by, nodes_from, node_of, node_numbers, body_numbers, member_numbers}
 use Rattle.cd_tree.specs.Scripts.{path_of}
 use Rattle.cd_tree.specs.Laws.{NestedViewFollows, ParentsComeFirst, PathsGoDown}
@@ -27,7 +27,7 @@ pub record Known (domains : List Domain) : Type 0 where
       (id : NodeId) (domain : Domain) → slice_get domains id.0 ≡ Some domain
       → path_of domains id ≡ option_map_or (path_of domains) domain.parent [] ++ id ∷ []
 
-pub known_of : NestedViewFollows → ParentsComeFirst → PathsGoDown → (tree : Outline) → IsTree tree → Known tree.domains
+pub known_of : NestedViewFollows → ParentsComeFirst → PathsGoDown → (tree : TreeModel) → IsTree tree → Known tree.domains
 known_of views parents paths tree is =
     record {
       view = views tree is;

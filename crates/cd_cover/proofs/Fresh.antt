@@ -16,7 +16,7 @@ use Rattle.cd_tree.specs.Laws.{NestedViewFollows, ParentsComeFirst, PathsGoDown}
 use Rattle.cd_cover.specs.Laws.{FramesGoUp, FramesEnd}
 use Rattle.cd_cover.specs.Links.{Frame, frame_over, frames_of, holder, link_in, link_of, entry_link, by_holder, written_before, written_since, stale}
 use Rattle.cd_cover.specs.Outer.{outer_references}
-use Rattle.cd_cover.specs.Plans.{Planned, IsPlan}
+use Rattle.cd_cover.specs.Plans.{PlanModel, IsPlan}
 use Rattle.cd_cover.specs.OuterLaws.{FreshOnTheWay, OuterAreFresh}
 use Rattle.cd_cover.proofs.Downward.{view_in, upward}
 use Rattle.cd_cover.proofs.PathLemmas.{path_cases, path_before, top_on_path}
@@ -89,7 +89,7 @@ way_left_alone domains links facts r p up k =
           ]
     ])
 
-fresh_at : (plan : Planned) → IsPlan plan → PlanFacts plan.tree.domains plan.links → (id up : NodeId) (at k : ℕ) (entry : Entry)
+fresh_at : (plan : PlanModel) → IsPlan plan → PlanFacts plan.tree.domains plan.links → (id up : NodeId) (at k : ℕ) (entry : Entry)
     → entry_at plan.tree.domains id at ≡ Some entry → link_of plan.tree.domains id at ≡ Some (up, k)
     → (p : Place) → in_range entry.range p ≡ true → LeavesAlone plan.tree.domains entry.range p id up
 fresh_at plan is facts id up at k entry here link p inside =

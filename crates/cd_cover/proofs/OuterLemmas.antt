@@ -13,7 +13,7 @@ use Rattle.cd_tree.specs.declared.domain.How.{How}
 use Rattle.cd_tree.specs.declared.domain.How.TheVariants.{Copy, Refer, Regen}
 use Rattle.cd_tree.specs.declared.domain.Entry.{Entry}
 use Rattle.cd_tree.specs.declared.domain.Domain.{Domain}
-use Rattle.cd_tree.specs.Outlines.{FitsItems, NamesChildren}
+use Rattle.cd_tree.specs.TreeModel.{FitsItems, NamesChildren}
 use Rattle.cd_tree.specs.Domains.{Node, Members, put_first, members_by, body_by, nodes_from, node_of, number_of, node_numbers, body_numbers, member_numbers}
 use Rattle.cd_tree.specs.Legal.{entry_at}
 use Rattle.cd_tree.specs.Scripts.{path_of}
@@ -21,7 +21,7 @@ use Rattle.cd_tree.specs.Laws.{NestedViewFollows, ParentsComeFirst, PathsGoDown}
 use Rattle.cd_cover.specs.Laws.{FramesGoUp, FramesEnd}
 use Rattle.cd_cover.specs.Links.{Frame, frame_over, frames_of, holder, link_in, entry_link, by_way, link_of}
 use Rattle.cd_cover.specs.Outer.{is_reference, leading_out, frame_at, node_outer, body_outer, members_outer, outer_references}
-use Rattle.cd_cover.specs.Plans.{Planned, IsPlan, links_of}
+use Rattle.cd_cover.specs.Plans.{PlanModel, IsPlan, links_of}
 use Rattle.cd_cover.specs.OuterLaws.{leads_before, leading_before, leading_of, OuterInOrder}
 use Rattle.cd_cover.proofs.LinkLemmas.{leads_at, links_lead}
 use Rattle.cd_cover.proofs.Downward.{Known, known_of, view_in, domain_behind, Child, downward, child_of_group, contains_first, numbers_cases}
@@ -125,7 +125,7 @@ numbers_there domains all =
       | inr found ↦ rest found.id found.child.domain found.child.later found.child.there n found.among
     ])
 
-pub plan_facts : NestedViewFollows → ParentsComeFirst → PathsGoDown → FramesGoUp → FramesEnd → (plan : Planned) → IsPlan plan
+pub plan_facts : NestedViewFollows → ParentsComeFirst → PathsGoDown → FramesGoUp → FramesEnd → (plan : PlanModel) → IsPlan plan
     → PlanFacts plan.tree.domains plan.links
 plan_facts views parents paths goes ends plan is =
     record {

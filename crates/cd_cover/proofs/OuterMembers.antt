@@ -6,7 +6,7 @@ use Rattle.std.proofs.lemmas.Bool.{cases_lt}
 use Rattle.std.proofs.lemmas.Option.{same_Some}
 use Rattle.cd_tree.specs.declared.domain.NodeId.{NodeId}
 use Rattle.cd_tree.specs.declared.domain.Domain.{Domain}
-use Rattle.cd_tree.specs.Outlines.{Outline, IsTree}
+use Rattle.cd_tree.specs.TreeModel.{TreeModel, IsTree}
 use Rattle.cd_tree.specs.Domains.{Node, node_of, node_numbers}
 use Rattle.cd_tree.specs.Scripts.{path_of}
 use Rattle.cd_tree.specs.Laws.{NestedViewFollows, ParentsComeFirst, PathsGoDown}
@@ -66,7 +66,7 @@ pub record Family (domains : List Domain) (parent id : NodeId) : Type 0 where
   pub is_parent : domain.parent ≡ Some parent
   pub among : Contains (node_numbers (view_in domains parent over)) id.0
 
-pub family : (tree : Outline) → IsTree tree → Known tree.domains → (parent id : NodeId) → IsChild tree.domains parent id
+pub family : (tree : TreeModel) → IsTree tree → Known tree.domains → (parent id : NodeId) → IsChild tree.domains parent id
     → Family tree.domains parent id
 family tree is all parent id child =
     let here = some_of (slice_get tree.domains id.0) (λ domain. domain.parent ≡ Some parent) child in

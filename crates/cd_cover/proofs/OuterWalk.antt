@@ -11,12 +11,12 @@ use Rattle.cd_tree.specs.SliceLaws.{SubtreesAreSlices, SlicesEndWithin}
 use Rattle.cd_cover.specs.Outer.{outer_references}
 use Rattle.cd_cover.specs.OuterLaws.{leading_of, OuterInOrder}
 use Rattle.cd_cover.specs.OuterLeft.{IsWithin, left_at}
-use Rattle.cd_cover.specs.Plans.{Planned, IsPlan, links_of}
+use Rattle.cd_cover.specs.Plans.{PlanModel, IsPlan, links_of}
 use Rattle.cd_cover.proofs.Views.{domain_here, length-nodes_from, some_and}
 use Rattle.cd_cover.proofs.Downward.{view_in}
 use Rattle.cd_cover.proofs.OuterSteps.{whole_left}
 
-pub walk_within : (plan : Planned) → IsPlan plan → SlicesEndWithin → (id : NodeId) → id.0 < length plan.tree.domains → (end : ℕ)
+pub walk_within : (plan : PlanModel) → IsPlan plan → SlicesEndWithin → (id : NodeId) → id.0 < length plan.tree.domains → (end : ℕ)
     → end ≡ slice_end plan.tree.domains id
     → (id.0 < end) × IsWithin plan.links (record { node = id.0; entry = 0; left = end - id.0 })
 walk_within plan is ends id within end at =
@@ -27,7 +27,7 @@ walk_within plan is ends id within end at =
     ends plan.tree is.program id within in
     (omega arith, (omega arith, omega arith))
 
-pub walk_comes_to : (plan : Planned) → IsPlan plan → NestedViewFollows → SubtreesAreSlices → OuterInOrder
+pub walk_comes_to : (plan : PlanModel) → IsPlan plan → NestedViewFollows → SubtreesAreSlices → OuterInOrder
     → (id : NodeId) → id.0 < length plan.tree.domains → (end : ℕ) → end ≡ slice_end plan.tree.domains id
     → IsSomeAnd (node_of plan.tree.domains id) (λ d.
     left_at plan.links id.0 (record { node = id.0; entry = 0; left = end - id.0 }) ≡ outer_references d)

@@ -6,7 +6,7 @@ use Rattle.std.proofs.lemmas.Option.{slice_get_within, same_Some}
 use Rattle.std.proofs.lemmas.List.Elements.{Contains-append_left, Contains-push, Contains-push_cases}
 use Rattle.cd_tree.specs.declared.domain.NodeId.{NodeId}
 use Rattle.cd_tree.specs.declared.domain.Domain.{Domain}
-use Rattle.cd_tree.specs.Outlines.{Outline, IsTree}
+use Rattle.cd_tree.specs.TreeModel.{TreeModel, IsTree}
 use Rattle.cd_tree.specs.Domains.{Node, node_of, root_of, node_numbers, numbers_from}
 use Rattle.cd_tree.specs.Scripts.{path_of}
 use Rattle.cd_cover.proofs.Views.{some_of, domain_here}
@@ -225,7 +225,7 @@ root_view (first ∷ rest) all domain there =
     all.view (record { 0 = 0 }) domain there in
     same_Some (root_of (first ∷ rest)) (view_in (first ∷ rest) (record { 0 = 0 }) domain) found
 
-pub in_own_parent : (tree : Outline) → IsTree tree → Known tree.domains → (id parent : NodeId) (domain : Domain)
+pub in_own_parent : (tree : TreeModel) → IsTree tree → Known tree.domains → (id parent : NodeId) (domain : Domain)
     → slice_get tree.domains id.0 ≡ Some domain → domain.parent ≡ Some parent → InParent tree.domains id domain
 in_own_parent tree is all id parent domain there up =
     let top : NodeId = record { 0 = 0 } in
@@ -247,7 +247,7 @@ in_own_parent tree is all id parent domain there up =
     ]
 
 -- a child is named by a group of its parent
-pub child_is_named : (tree : Outline) → IsTree tree → Known tree.domains → (id parent : NodeId) (domain : Domain)
+pub child_is_named : (tree : TreeModel) → IsTree tree → Known tree.domains → (id parent : NodeId) (domain : Domain)
     → slice_get tree.domains id.0 ≡ Some domain → domain.parent ≡ Some parent
     → (over : Domain) → slice_get tree.domains parent.0 ≡ Some over → IsNamed id over.items
 child_is_named tree is all id parent domain there up over over_there =
@@ -278,7 +278,7 @@ child_is_named tree is all id parent domain there up over over_there =
     ]
 
 -- a domain on a path has the path's end in its subtree
-pub end_in_subtree : (tree : Outline) → IsTree tree → Known tree.domains → (below : NodeId) (last : Domain)
+pub end_in_subtree : (tree : TreeModel) → IsTree tree → Known tree.domains → (below : NodeId) (last : Domain)
     → slice_get tree.domains below.0 ≡ Some last
     → (id : NodeId) (domain : Domain) → slice_get tree.domains id.0 ≡ Some domain → Contains (path_of tree.domains below) id
     → Contains (node_numbers (view_in tree.domains id domain)) below.0

@@ -5,7 +5,7 @@ use Rattle.std.specs.List.{flat_map}
 use Rattle.cd_tree.specs.declared.domain.NodeId.{NodeId}
 use Rattle.cd_tree.specs.declared.domain.Item.TheVariants.{Group}
 use Rattle.cd_tree.specs.declared.domain.Domain.{Domain}
-use Rattle.cd_tree.specs.Outlines.{Outline}
+use Rattle.cd_tree.specs.TreeModel.{TreeModel}
 use Rattle.cd_base.specs.Words.{Words}
 use Rattle.cd_tree.specs.Domains.{Node, node_of, nodes_from, node_numbers, body_of, root_of}
 use Rattle.cd_tree.specs.FirstItems.{first_items, waiting_words}
@@ -29,7 +29,7 @@ levels =
     ∷ domain (Some (number 0)) (referred (part 1 0 4) ∷ []) []
     ∷ []
 
-abbrev tree : Outline
+abbrev tree : TreeModel
 tree = record { kinds = []; domains = levels }
 
 abbrev links : List (List (Option (NodeId × ℕ)))

@@ -7,7 +7,7 @@ use Rattle.cd_tree.specs.declared.domain.NodeId.{NodeId}
 use Rattle.cd_tree.specs.declared.domain.Entry.{Entry}
 use Rattle.cd_tree.specs.declared.domain.Domain.{Domain}
 use Rattle.cd_tree.specs.declared.groups.GroupPlace.{GroupPlace}
-use Rattle.cd_tree.specs.Outlines.{Outline, IsTree}
+use Rattle.cd_tree.specs.TreeModel.{TreeModel, IsTree}
 use Rattle.cd_tree.specs.Domains.{Node, body_of, node_of}
 use Rattle.cd_tree.specs.FirstItems.{first_items, waiting_words}
 use Rattle.cd_tree.specs.Groups.{StandsIn}
@@ -16,19 +16,19 @@ use Rattle.cd_tree.specs.Locality.{SameWords}
 use Rattle.cd_tree.specs.Meaning.{body_writes}
 use Rattle.cd_cover.specs.Links.{is_kept, link_of, written_before}
 use Rattle.cd_cover.specs.Outer.{outer_references}
-use Rattle.cd_cover.specs.Plans.{Planned, IsPlan}
+use Rattle.cd_cover.specs.Plans.{PlanModel, IsPlan}
 
 -- what a domain's items write before the group of a child is what its first items write
 abbrev pub WrittenByFirstItems : Type 0
 WrittenByFirstItems =
-    (tree : Outline) → IsTree tree → (parent id : NodeId) (at : GroupPlace) (above : Node) → node_of tree.domains parent ≡ Some above
+    (tree : TreeModel) → IsTree tree → (parent id : NodeId) (at : GroupPlace) (above : Node) → node_of tree.domains parent ≡ Some above
     → StandsIn tree.domains parent id at
     → (p : Place) → written_before id.0 (body_of above) p ≡ body_writes (first_items at.item (body_of above)) p
 
 -- where a domain waits for a group, the ranges of its members' outer references have the words with which the domain began
 abbrev pub OuterWordsStay : Type 0
 OuterWordsStay =
-    (plan : Planned) → IsPlan plan → (parent id : NodeId) (at : GroupPlace) (above d : Node)
+    (plan : PlanModel) → IsPlan plan → (parent id : NodeId) (at : GroupPlace) (above d : Node)
     → node_of plan.tree.domains parent ≡ Some above → node_of plan.tree.domains id ≡ Some d → StandsIn plan.tree.domains parent id at
     → (reference : NodeId × ℕ) (entry : Entry) → Contains (outer_references d) reference
     → entry_at plan.tree.domains reference.0 reference.1 ≡ Some entry
@@ -49,7 +49,7 @@ AgreeWithEntries domains id kept w =
 -- links of the members keep
 abbrev pub LinksServeMembers : Type 0
 LinksServeMembers =
-    (plan : Planned) → IsPlan plan → (parent id : NodeId) (at : GroupPlace) (above d : Node)
+    (plan : PlanModel) → IsPlan plan → (parent id : NodeId) (at : GroupPlace) (above d : Node)
     → node_of plan.tree.domains parent ≡ Some above → node_of plan.tree.domains id ≡ Some d → StandsIn plan.tree.domains parent id at
     → (kept : NodeId × ℕ → Words) (begun : Words)
     → AgreeWithLinks plan.tree.domains above kept begun → AgreeWithEntries plan.tree.domains parent kept begun

@@ -8,7 +8,7 @@ use Rattle.cd_tree.specs.declared.domain.NodeId.{NodeId}
 use Rattle.cd_tree.specs.declared.domain.How.TheVariants.{Refer}
 use Rattle.cd_tree.specs.declared.domain.Entry.{Entry}
 use Rattle.cd_tree.specs.declared.domain.Domain.{Domain}
-use Rattle.cd_tree.specs.Outlines.{Outline, IsTree}
+use Rattle.cd_tree.specs.TreeModel.{TreeModel, IsTree}
 use Rattle.cd_tree.specs.Domains.{Node, node, number_of, body_of, node_of, node_numbers}
 use Rattle.cd_tree.specs.Laws.{OfEach}
 use Rattle.cd_tree.specs.Scripts.{path_of}
@@ -16,20 +16,20 @@ use Rattle.cd_tree.specs.Legal.{entry_at}
 use Rattle.cd_tree.specs.Meaning.{LieIn, node_reads}
 use Rattle.cd_cover.specs.Links.{link_of, written_before}
 use Rattle.cd_cover.specs.Outer.{outer_references}
-use Rattle.cd_cover.specs.Plans.{Planned, IsPlan}
+use Rattle.cd_cover.specs.Plans.{PlanModel, IsPlan}
 
 -- ---- which they are
 
 -- a domain lies in the subtree of another, which is itself and all below it, exactly where the other is on its path
 abbrev pub SubtreesByPaths : Type 0
 SubtreesByPaths =
-    (tree : Outline) → IsTree tree → (id below : NodeId) (d : Node) → node_of tree.domains id ≡ Some d → below.0 < length tree.domains
+    (tree : TreeModel) → IsTree tree → (id below : NodeId) (d : Node) → node_of tree.domains id ≡ Some d → below.0 < length tree.domains
     → Contains (node_numbers d) below.0 ↔ Contains (path_of tree.domains below) id
 
 -- what any entry of a subtree preserves is read by the domain at its top
 abbrev pub EntriesAreRead : Type 0
 EntriesAreRead =
-    (tree : Outline) → IsTree tree → (id below : NodeId) (d : Node) (at : ℕ) (entry : Entry) → node_of tree.domains id ≡ Some d
+    (tree : TreeModel) → IsTree tree → (id below : NodeId) (d : Node) (at : ℕ) (entry : Entry) → node_of tree.domains id ≡ Some d
     → Contains (node_numbers d) below.0 → entry_at tree.domains below at ≡ Some entry → LieIn (in_range entry.range) (node_reads d)
 
 -- above a domain: on its path, and before it
@@ -44,13 +44,13 @@ IsOuter domains (node id domain body) (below, at) =
 -- the outer references of a domain are these entries and no others
 abbrev pub OuterAreThese : Type 0
 OuterAreThese =
-    (plan : Planned) → IsPlan plan
+    (plan : PlanModel) → IsPlan plan
     → OfEach plan.tree (λ d. (reference : NodeId × ℕ) → Contains (outer_references d) reference ↔ IsOuter plan.tree.domains d reference)
 
 -- each is a reference
 abbrev pub OuterAreReferences : Type 0
 OuterAreReferences =
-    (plan : Planned) → IsPlan plan
+    (plan : PlanModel) → IsPlan plan
     → OfEach plan.tree (λ d. All (λ reference. IsSomeAnd (entry_at plan.tree.domains reference.0 reference.1) (λ entry. entry.how ≡ Refer)) (outer_references d))
 
 -- an entry stands before another: in a domain before, or before it in the same domain
@@ -64,7 +64,7 @@ Ascend (first ∷ rest) = All (ComesBefore first) rest × Ascend rest
 
 -- the outer references of a domain ascend: none stands twice
 abbrev pub OuterAscend : Type 0
-OuterAscend = (plan : Planned) → IsPlan plan → OfEach plan.tree (λ d. Ascend (outer_references d))
+OuterAscend = (plan : PlanModel) → IsPlan plan → OfEach plan.tree (λ d. Ascend (outer_references d))
 
 -- whether a link leads to a domain that stands before this one
 abbrev pub leads_before : ℕ → Option (NodeId × ℕ) → Bool
@@ -85,7 +85,7 @@ leading_of links first n = leading_before first (record { 0 = n }) 0 (slice_inde
 -- the outer references of a domain, in order: domain by domain of its subtree the entries whose links lead before it
 abbrev pub OuterInOrder : Type 0
 OuterInOrder =
-    (plan : Planned) → IsPlan plan
+    (plan : PlanModel) → IsPlan plan
     → OfEach plan.tree (λ d. outer_references d ≡ flat_map (leading_of plan.links (number_of d)) (node_numbers d))
 
 -- ---- where their links stand
@@ -100,14 +100,14 @@ LinksTo domains up reference = IsSomeAnd (link_of domains reference.0 reference.
 -- an outer reference of a domain has its link among the entries of the parent, or is an outer reference of the parent
 abbrev pub OuterOfMembers : Type 0
 OuterOfMembers =
-    (plan : Planned) → IsPlan plan → (parent id : NodeId) (above d : Node)
+    (plan : PlanModel) → IsPlan plan → (parent id : NodeId) (above d : Node)
     → node_of plan.tree.domains parent ≡ Some above → node_of plan.tree.domains id ≡ Some d → IsChild plan.tree.domains parent id
     → All (λ reference. LinksTo plan.tree.domains parent reference ⊎ Contains (outer_references above) reference) (outer_references d)
 
 -- an outer reference of a domain that is not one of its own entries is an outer reference of the child in which it lies
 abbrev pub OuterLieBelow : Type 0
 OuterLieBelow =
-    (plan : Planned) → IsPlan plan → (parent id : NodeId) (above d : Node)
+    (plan : PlanModel) → IsPlan plan → (parent id : NodeId) (above d : Node)
     → node_of plan.tree.domains parent ≡ Some above → node_of plan.tree.domains id ≡ Some d → IsChild plan.tree.domains parent id
     → All (λ reference. Contains (node_numbers d) reference.0.0 → Contains (outer_references d) reference) (outer_references above)
 
@@ -117,7 +117,7 @@ OuterLieBelow =
 -- the link's domain
 abbrev pub FreshOnTheWay : Type 0
 FreshOnTheWay =
-    (plan : Planned) → IsPlan plan → (id up : NodeId) (at k : ℕ) (entry : Entry)
+    (plan : PlanModel) → IsPlan plan → (id up : NodeId) (at k : ℕ) (entry : Entry)
     → entry_at plan.tree.domains id at ≡ Some entry → link_of plan.tree.domains id at ≡ Some (up, k)
     → (parent member : NodeId) (d : Node) → node_of plan.tree.domains parent ≡ Some d → IsChild plan.tree.domains parent member
     → Contains (path_of plan.tree.domains id) member → up.0 ≤ parent.0
@@ -126,7 +126,7 @@ FreshOnTheWay =
 -- what a domain's items write before the group of a member is outside the ranges of the member's outer references
 abbrev pub OuterAreFresh : Type 0
 OuterAreFresh =
-    (plan : Planned) → IsPlan plan → (parent id : NodeId) (above d : Node)
+    (plan : PlanModel) → IsPlan plan → (parent id : NodeId) (above d : Node)
     → node_of plan.tree.domains parent ≡ Some above → node_of plan.tree.domains id ≡ Some d → IsChild plan.tree.domains parent id
     → (reference : NodeId × ℕ) (entry : Entry) → Contains (outer_references d) reference
     → entry_at plan.tree.domains reference.0 reference.1 ≡ Some entry

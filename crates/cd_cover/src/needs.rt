@@ -3,7 +3,7 @@ ghost use Rattle.std.specs.Prelude.{◌≡◌, ◌<◌, ◌≤◌, ◌+◌, ◌*
 ghost use Rattle.cd_tree.specs.Limits.{entries_limit};
 ghost use Rattle.cd_tree.specs.Domains.{node_of, nodes_from, body_of};
 ghost use Rattle.cd_tree.specs.Meaning.{entry_need, body_need, node_need};
-ghost use Rattle.cd_tree.specs.Outlines.{IsTree};
+ghost use Rattle.cd_tree.specs.TreeModel.{IsTree};
 ghost use Rattle.cd_cover.specs.Needs.{own_need, most_own, AreSmall, HoldsFrom};
 
 use cd_base::NoMemory;

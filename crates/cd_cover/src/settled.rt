@@ -24,9 +24,9 @@ pub struct Plan<'a> {
 }
 
 impl<'a> Model for Plan<'a> {
-    ghost use Rattle.cd_cover.specs.Plans.{Planned, IsPlan};
+    ghost use Rattle.cd_cover.specs.Plans.{PlanModel, IsPlan};
 
-    ghost Value = { Planned };
+    ghost Value = { PlanModel };
 
     ghost view = { λ plan. record { tree = plan.tree.now; feet = plan.feet.now; links = plan.links.items; needs = plan.needs.items } };
 

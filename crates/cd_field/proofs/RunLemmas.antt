@@ -10,7 +10,7 @@ use Rattle.cd_base.specs.declared.place.Place.{Place}
 use Rattle.cd_base.specs.declared.place.Range.{Range}
 use Rattle.cd_base.specs.Words.{Words, PlaceSet, word_at, same_place, in_range, in_ranges}
 use Rattle.cd_tree.specs.Operations.{length_of, nth_word}
-use Rattle.cd_field.specs.Machine.{Machine, IsPresent, ArePresent, wrote, refilled_word, laid, words_in, wrote_run, refilled_run}
+use Rattle.cd_field.specs.FieldModel.{FieldModel, IsPresent, ArePresent, wrote, refilled_word, laid, words_in, wrote_run, refilled_run}
 use Rattle.cd_field.proofs.FlatLemmas.{by_test, chosen, other}
 use Rattle.cd_field.proofs.PlaceLemmas.{choice_at, choice_or, range_none}
 
@@ -77,21 +77,21 @@ span_end {X} f old r i past most q =
 abbrev word_for : Range → List ℕ → Place → Option ℕ
 word_for r words q = Some (get_or words (q.index - r.low) 0)
 
-pub wrote_none : (m : Machine) (r : Range) (words : List ℕ) → m ≡ wrote_run m (record r { high = r.low }) words
+pub wrote_none : (m : FieldModel) (r : Range) (words : List ℕ) → m ≡ wrote_run m (record r { high = r.low }) words
 wrote_none m r words =
     ap (λ (w : Words). record m { words = w })
     (sym (fun_ext (range_none (word_for r words) m.words (record r { high = r.low }) (omega arith))))
 
-pub wrote_more : (m was later : Machine) (r : Range) (words : List ℕ) (i : ℕ) → r.low ≤ i
+pub wrote_more : (m was later : FieldModel) (r : Range) (words : List ℕ) (i : ℕ) → r.low ≤ i
     → m ≡ wrote_run was (record r { high = i }) words
     → later ≡ wrote m (record { region = r.region; index = i }) (get_or words (i - r.low) 0)
     → later ≡ wrote_run was (record r { high = i + 1 }) words
 wrote_more m was later r words i low is after =
     after
-    ∙ ap (λ (v : Machine). wrote v (record { region = r.region; index = i }) (get_or words (i - r.low) 0)) is
+    ∙ ap (λ (v : FieldModel). wrote v (record { region = r.region; index = i }) (get_or words (i - r.low) 0)) is
     ∙ ap (λ (w : Words). record was { words = w }) (fun_ext (span_more (word_for r words) was.words r i low))
 
-pub wrote_all : (m was : Machine) (r : Range) (words : List ℕ) (i : ℕ) → r.high ≤ i → i ≤ max r.low r.high
+pub wrote_all : (m was : FieldModel) (r : Range) (words : List ℕ) (i : ℕ) → r.high ≤ i → i ≤ max r.low r.high
     → m ≡ wrote_run was (record r { high = i }) words → m ≡ wrote_run was r words
 wrote_all m was r words i past most is =
     is ∙ ap (λ (w : Words). record was { words = w }) (fun_ext (span_end (word_for r words) was.words r i past most))
@@ -105,31 +105,31 @@ laid_known w r words p some =
     (λ f. subst P (sym (other (in_range r p) (word_for r words p) (w p) f)) some)
 
 -- each place of the range is present while its words are written
-pub wrote_present : (m was : Machine) (r front : Range) (words : List ℕ) → m ≡ wrote_run was front words
+pub wrote_present : (m was : FieldModel) (r front : Range) (words : List ℕ) → m ≡ wrote_run was front words
     → ArePresent was (r ∷ []) → ArePresent m (r ∷ [])
 wrote_present m was r front words is present p h =
-    let P : Machine → Type 0 = λ v. IsPresent v p in
+    let P : FieldModel → Type 0 = λ v. IsPresent v p in
     let there : IsPresent was p = present p h in
     subst P (sym is) (record { known = laid_known was.words front words p there.known; here = there.here })
 
-pub refilled_none : (m : Machine) (r : Range) (words : List ℕ) → m ≡ refilled_run m (record r { high = r.low }) words
+pub refilled_none : (m : FieldModel) (r : Range) (words : List ℕ) → m ≡ refilled_run m (record r { high = r.low }) words
 refilled_none m r words =
     ap₂ (λ (w : Words) (l : PlaceSet). record m { words = w; lost = l })
     (sym (fun_ext (range_none (word_for r words) m.words (record r { high = r.low }) (omega arith))))
     (sym (fun_ext (range_none (λ q. false) m.lost (record r { high = r.low }) (omega arith))))
 
-pub refilled_more : (m was later : Machine) (r : Range) (words : List ℕ) (i : ℕ) → r.low ≤ i
+pub refilled_more : (m was later : FieldModel) (r : Range) (words : List ℕ) (i : ℕ) → r.low ≤ i
     → m ≡ refilled_run was (record r { high = i }) words
     → later ≡ refilled_word m (record { region = r.region; index = i }) (get_or words (i - r.low) 0)
     → later ≡ refilled_run was (record r { high = i + 1 }) words
 refilled_more m was later r words i low is after =
     after
-    ∙ ap (λ (v : Machine). refilled_word v (record { region = r.region; index = i }) (get_or words (i - r.low) 0)) is
+    ∙ ap (λ (v : FieldModel). refilled_word v (record { region = r.region; index = i }) (get_or words (i - r.low) 0)) is
     ∙ ap₂ (λ (w : Words) (l : PlaceSet). record was { words = w; lost = l })
     (fun_ext (span_more (word_for r words) was.words r i low))
     (fun_ext (span_more (λ q. false) was.lost r i low))
 
-pub refilled_all : (m was : Machine) (r : Range) (words : List ℕ) (i : ℕ) → r.high ≤ i → i ≤ max r.low r.high
+pub refilled_all : (m was : FieldModel) (r : Range) (words : List ℕ) (i : ℕ) → r.high ≤ i → i ≤ max r.low r.high
     → m ≡ refilled_run was (record r { high = i }) words → m ≡ refilled_run was r words
 refilled_all m was r words i past most is =
     is
@@ -138,8 +138,8 @@ refilled_all m was r words i past most is =
     (fun_ext (span_end (λ q. false) was.lost r i past most))
 
 -- each place of the range has a word while words are put back
-pub refilled_known : (m was : Machine) (r front : Range) (words : List ℕ) → m ≡ refilled_run was front words
+pub refilled_known : (m was : FieldModel) (r front : Range) (words : List ℕ) → m ≡ refilled_run was front words
     → ((p : Place) → in_range r p ≡ true → IsSome (was.words p)) → (p : Place) → in_range r p ≡ true → IsSome (m.words p)
 refilled_known m was r front words is known p h =
-    let P : Machine → Type 0 = λ v. IsSome (v.words p) in
+    let P : FieldModel → Type 0 = λ v. IsSome (v.words p) in
     subst P (sym is) (laid_known was.words front words p (known p h))

@@ -5,7 +5,7 @@ ghost use Rattle.cd_base.specs.Places.{is_before};
 ghost use Rattle.cd_base.specs.Words.{same_place, in_range};
 ghost use Rattle.cd_tree.specs.Meaning.{written};
 ghost use Rattle.cd_tree.specs.Operations.{length_of};
-ghost use Rattle.cd_field.specs.Machine.{laid, words_in};
+ghost use Rattle.cd_field.specs.FieldModel.{laid, words_in};
 ghost use Rattle.cd_field.specs.Flat.{index_of, flat_words, flat_lost, slot_at, HasRoom, IsInOrder, IsWhole};
 
 use cd_base::{NoMemory, Place, Range};

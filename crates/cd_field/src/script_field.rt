@@ -1,5 +1,5 @@
 ghost use Rattle.std.specs.Prelude.{◌≡◌, []};
-ghost use Rattle.cd_field.specs.Machine.{loaded};
+ghost use Rattle.cd_field.specs.FieldModel.{loaded};
 ghost use Rattle.cd_field.specs.FlatMachine.{flat_machine};
 
 use crate::Field;
@@ -45,7 +45,7 @@ impl ScriptField {
 impl Field for ScriptField {
     ghost use Rattle.cd_field.specs.FlatMachine.{flat_machine};
 
-    ghost state = { flat_machine };
+    ghost model = { flat_machine };
 
     fn load(&mut self, regions: &Regions, script: &Script) -> Result<(), NoMemory> {
         let words = first_flat(self.alloc, regions.items())?;

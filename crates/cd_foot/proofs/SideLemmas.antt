@@ -17,7 +17,7 @@ use Rattle.cd_tree.specs.declared.operation.Op.{Op}
 use Rattle.cd_tree.specs.Operations.{op_writes, IsFull}
 use Rattle.cd_tree.specs.Meaning.{in_entries, body_reads, member_reads, body_writes, member_writes}
 use Rattle.cd_tree.specs.Domains.{Node, Body, Members, node, stop, run, group, no_more, member, put_first, members_by, body_by, node_of}
-use Rattle.cd_tree.specs.Outlines.{Outline, IsTree, NamesChildren, FitsItems, FitsDomain, EachFits}
+use Rattle.cd_tree.specs.TreeModel.{TreeModel, IsTree, NamesChildren, FitsItems, FitsDomain, EachFits}
 use Rattle.cd_tree.specs.Laws.{NestedViewFollows}
 use Rattle.cd_foot.specs.declared.footprints.Foot.{Foot}
 use Rattle.cd_foot.specs.declared.gathered.Side.{Side}
@@ -38,7 +38,7 @@ fits_at kinds all at (first ∷ domains) (suc k) domain (here, fits) is =
     let sum : at + suc k ≡ suc at + k = omega arith in
     rw sum (fits_at kinds all (suc at) domains k domain fits is)
 
-pub fits : (tree : Outline) → IsTree tree → (id : NodeId) (domain : Domain) → slice_get tree.domains id.0 ≡ Some domain
+pub fits : (tree : TreeModel) → IsTree tree → (id : NodeId) (domain : Domain) → slice_get tree.domains id.0 ≡ Some domain
     → FitsDomain tree.kinds tree.domains id.0 domain
 fits tree is id domain there =
     let sum : 0 + id.0 ≡ id.0 = omega arith in
@@ -66,13 +66,13 @@ gatherable domains at (Run op ∷ items) (full, shape, fits) =
 gatherable domains at (Group ids ∷ items) (some, few, named, fits) =
     All-cons (IsItemOf (length domains)) (Group ids) items (names_among domains at ids named) (gatherable domains at items fits)
 
-pub gatherable_items : (tree : Outline) → IsTree tree → (id : NodeId) (domain : Domain) → slice_get tree.domains id.0 ≡ Some domain
+pub gatherable_items : (tree : TreeModel) → IsTree tree → (id : NodeId) (domain : Domain) → slice_get tree.domains id.0 ≡ Some domain
     → (count : ℕ) → count ≡ length tree.domains → All (IsItemOf count) domain.items
 gatherable_items tree is id domain there count same =
     let Q : ℕ → Type 0 = λ n. All (IsItemOf n) domain.items in
     subst Q (sym same) (gatherable tree.domains id.0 domain.items (fits tree is id domain there).items)
 
-pub full_ranges : (tree : Outline) → IsTree tree → (id : NodeId) (domain : Domain) → slice_get tree.domains id.0 ≡ Some domain
+pub full_ranges : (tree : TreeModel) → IsTree tree → (id : NodeId) (domain : Domain) → slice_get tree.domains id.0 ≡ Some domain
     → All (λ (entry : Entry). IsFull entry.range) domain.entries
 full_ranges tree is id domain there = (fits tree is id domain there).ranges
 
@@ -85,7 +85,7 @@ Member domains feet id =
 no_foot : Foot
 no_foot = record { reads = []; writes = []; reach = [] }
 
-member_found : (tree : Outline) → NestedViewFollows → IsTree tree → (at : ℕ) (feet : List Foot) → AreFeetFrom (at + 1) tree.domains feet
+member_found : (tree : TreeModel) → NestedViewFollows → IsTree tree → (at : ℕ) (feet : List Foot) → AreFeetFrom (at + 1) tree.domains feet
     → (id : NodeId) → at < id.0 → IsChild at (slice_get tree.domains id.0) → Member tree.domains feet id
 member_found tree views is at feet behind id above child =
     let one = child_in at (slice_get tree.domains id.0) child in
@@ -166,7 +166,7 @@ members_by-found : (find : NodeId → Option Node) (id : NodeId) (ids : List Nod
     → members_by find (id ∷ ids) ≡ member d (members_by find ids)
 members_by-found find id ids d found = ap (λ (o : Option Node). put_first o (members_by find ids)) found
 
-members_places : (side : Side) (tree : Outline) → NestedViewFollows → IsTree tree → (at : ℕ) (feet : List Foot) → AreFeetFrom (at + 1) tree.domains feet
+members_places : (side : Side) (tree : TreeModel) → NestedViewFollows → IsTree tree → (at : ℕ) (feet : List Foot) → AreFeetFrom (at + 1) tree.domains feet
     → (ids : List NodeId) (p : Place) → NamesChildren tree.domains at ids
     → in_ranges (flat_map (side_at side feet) ids) p ≡ member_side side (members_by (node_of tree.domains) ids) p
 members_places side tree views is at feet behind [] p named = none-of-members side p
@@ -180,7 +180,7 @@ members_places side tree views is at feet behind (id ∷ ids) p (above, child, n
     ∙ sym (member_side-member side found.0 (members_by find ids) p)
     ∙ ap (λ (ms : Members). member_side side ms p) (sym (members_by-found find id ids found.0 found.2))
 
-items_places : (side : Side) (tree : Outline) → NestedViewFollows → IsTree tree → (at : ℕ) (feet : List Foot) → AreFeetFrom (at + 1) tree.domains feet
+items_places : (side : Side) (tree : TreeModel) → NestedViewFollows → IsTree tree → (at : ℕ) (feet : List Foot) → AreFeetFrom (at + 1) tree.domains feet
     → (items : List Item) (p : Place) → FitsItems tree.domains at items
     → in_ranges (flat_map (item_side side feet) items) p ≡ body_side side (body_by (node_of tree.domains) items) p
 items_places side tree views is at feet behind [] p fits = none-of-body side p
@@ -194,7 +194,7 @@ items_places side tree views is at feet behind (Group ids ∷ items) p (some, fe
 
 -- ---- a domain
 
-pub gathered_places : (side : Side) (tree : Outline) → NestedViewFollows → IsTree tree → (feet : List Foot) (id : NodeId) (domain : Domain)
+pub gathered_places : (side : Side) (tree : TreeModel) → NestedViewFollows → IsTree tree → (feet : List Foot) (id : NodeId) (domain : Domain)
     → AreFeetFrom (id.0 + 1) tree.domains feet → slice_get tree.domains id.0 ≡ Some domain → (p : Place)
     → in_ranges (gathered side feet domain) p ≡ node_side side (node id domain (body_by (node_of tree.domains) domain.items)) p
 gathered_places side tree views is feet id domain behind there p =
@@ -203,7 +203,7 @@ gathered_places side tree views is feet id domain behind there p =
     ∙ sym (node_side-node side id domain (body_by (node_of tree.domains) domain.items) p)
 
 -- the set made of what was gathered
-pub is_side : (side : Side) (tree : Outline) → NestedViewFollows → IsTree tree → (feet : List Foot) (id : NodeId) (domain : Domain)
+pub is_side : (side : Side) (tree : TreeModel) → NestedViewFollows → IsTree tree → (feet : List Foot) (id : NodeId) (domain : Domain)
     → AreFeetFrom (id.0 + 1) tree.domains feet → slice_get tree.domains id.0 ≡ Some domain
     → (ranges set : List Range) → ranges ≡ gathered side feet domain → ((p : Place) → in_ranges set p ≡ in_ranges ranges p)
     → (d : Node) → node_of tree.domains id ≡ Some d → IsSide side d set

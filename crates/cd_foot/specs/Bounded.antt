@@ -7,7 +7,7 @@ use Rattle.cd_tree.specs.declared.domain.Domain.{Domain}
 use Rattle.cd_tree.specs.declared.refusal.Refusal.{Refusal}
 use Rattle.cd_tree.specs.Domains.{Node, root_of}
 use Rattle.cd_tree.specs.Meaning.{node_reach, IsDisjoint}
-use Rattle.cd_tree.specs.Outlines.{Outline, IsTree}
+use Rattle.cd_tree.specs.TreeModel.{TreeModel, IsTree}
 use Rattle.cd_foot.specs.Overlaps.{FirstOverlap}
 
 -- all places of a set lie in the first so many regions, and at the first so many indices
@@ -30,4 +30,4 @@ FirstOverlapIsThere = (domains : List Domain) → (answer : Option Refusal) × F
 
 -- a program that has none is disjoint
 abbrev pub NoOverlapIsDisjoint : Type 0
-NoOverlapIsDisjoint = (tree : Outline) → IsTree tree → FirstOverlap tree.domains None → IsDisjoint (root_of tree.domains)
+NoOverlapIsDisjoint = (tree : TreeModel) → IsTree tree → FirstOverlap tree.domains None → IsDisjoint (root_of tree.domains)

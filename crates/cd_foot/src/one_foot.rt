@@ -1,5 +1,5 @@
 ghost use Rattle.std.specs.Prelude.{◌≡◌, ◌<◌, ◌+◌, length, Some, IfOk};
-ghost use Rattle.cd_tree.specs.Outlines.{IsTree};
+ghost use Rattle.cd_tree.specs.TreeModel.{IsTree};
 ghost use Rattle.cd_tree.specs.Domains.{node_of};
 ghost use Rattle.cd_tree.specs.Laws.{NestedViewFollows};
 ghost use Rattle.cd_foot.specs.Feet.{IsFoot};

@@ -13,11 +13,11 @@ use Rattle.cd_tree.specs.declared.domain.Domain.{Domain}
 use Rattle.cd_tree.specs.declared.domain.Entry.{Entry}
 use Rattle.cd_tree.specs.declared.kinds.KindName.{KindName}
 use Rattle.cd_tree.specs.Operations.{op_reads, op_writes}
-use Rattle.cd_tree.specs.Outlines.{EachFits, SiblingsDiffer, KindsDiffer, NamesChildren}
+use Rattle.cd_tree.specs.TreeModel.{EachFits, SiblingsDiffer, KindsDiffer, NamesChildren}
 use Rattle.cd_parse.specs.declared.draft.Stage.{Stage}
 use Rattle.cd_parse.specs.declared.draft.Stage.TheVariants.{Start, Kinds, Regions, Root, Closed, Strikes}
 use Rattle.cd_parse.specs.declared.draft.Level.{Level}
-use Rattle.cd_parse.specs.Draft.{Draft, parent_of}
+use Rattle.cd_parse.specs.Draft.{DraftModel, parent_of}
 
 abbrev pub one_group : Option (List NodeId) → ℕ
 one_group None = 0
@@ -124,7 +124,7 @@ IsStaged Closed domains levels = (0 < length domains) × (levels ≡ [])
 IsStaged Strikes domains levels = (0 < length domains) × (levels ≡ [])
 
 -- all that a program has to be, but for the groups that are open
-pub record IsSound (draft : Draft) : Type 0 where
+pub record IsSound (draft : DraftModel) : Type 0 where
   pub staged : IsStaged draft.stage draft.domains draft.levels
   pub ends : ℕ → ℕ
   pub deep : ℕ → ℕ

@@ -1,22 +1,22 @@
 ghost use Rattle.std.specs.Prelude.{◌≡◌, ◌≤◌, length};
 ghost use Rattle.cd_tree.specs.Limits.{text_limit};
-ghost use Rattle.cd_tree.specs.Outlines.{IsTree};
+ghost use Rattle.cd_tree.specs.TreeModel.{IsTree};
 ghost use Rattle.cd_words.specs.Steps.{Answers};
 ghost use Rattle.cd_parse.specs.Draft.{document_of};
 ghost use Rattle.cd_parse.specs.Reading.{parse};
 
-use crate::draft::Builder;
+use crate::draft::Draft;
 use crate::reading::read_draft;
 use cd_base::Items;
 use cd_tree::{Document, Refuse, Tree};
 use std::alloc::Global;
 
 // What a draft has said, whose domains are a program.
-fn document(draft: Builder) -> Document
+fn document(draft: Draft) -> Document
     requires { IsTree (record { kinds = draft.kinds; domains = draft.domains }) }
     ensures { result ≡ document_of draft }
 {
-    let Builder {
+    let Draft {
         version,
         kinds,
         regions,

@@ -8,7 +8,7 @@ ghost use Rattle.cd_parse.specs.Draft.{four_kinds, kind_name, has_kind_named, ha
 ghost use Rattle.cd_words.specs.Wrongs.{both};
 ghost use Rattle.cd_parse.specs.Heads.{name_fits, begun, cd_in, short_how, long_how, how_in, with_entry_of, preserve_in, faults_in, is_kind_name, with_kind_named, kind_in, words_fit, region_of, with_region, regioned, region_statement, time_in, damage_in, with_fault, struck, strike_in, group_in, end_in, has_domain_form, retry_fits, domain_named, with_domain, domained, domain_in};
 
-use crate::draft::{Builder, Stage, push_last};
+use crate::draft::{Draft, Stage, push_last};
 use crate::operations::{fits, op_in};
 use crate::ranges::{place_in, range_in};
 use cd_base::{Bytes, Items, NoMemory, Pattern, Place, Range, Text};
@@ -45,7 +45,7 @@ fn three<A: Drop, B: Drop, C: Drop>(
 
 // cd 1, cd 2
 #[tactic(auto, unfolding(crate::specs::Heads::cd_in))]
-pub(crate) fn cd(alloc: Global, draft: &mut Builder, words: &[Bytes]) -> Result<(), Stop>
+pub(crate) fn cd(alloc: Global, draft: &mut Draft, words: &[Bytes]) -> Result<(), Stop>
     ensures { Steps draft.new result (cd_in draft.old words.now) }
 {
     match words {
@@ -57,7 +57,7 @@ pub(crate) fn cd(alloc: Global, draft: &mut Builder, words: &[Bytes]) -> Result<
     }
 }
 
-fn begin(alloc: Global, draft: &mut Builder, version: &[u8]) -> Result<(), Stop>
+fn begin(alloc: Global, draft: &mut Draft, version: &[u8]) -> Result<(), Stop>
     ensures { Steps draft.new result (begun draft.old version.now) }
 {
     if version == b"1".as_slice() {
@@ -98,7 +98,7 @@ fn kind_name(alloc: Global, name: &str) -> Result<KindName, NoMemory>
 
 // faults
 #[tactic(auto, unfolding(crate::specs::Heads::faults_in))]
-pub(crate) fn faults(draft: &mut Builder, words: &[Bytes]) -> Result<(), Stop>
+pub(crate) fn faults(draft: &mut Draft, words: &[Bytes]) -> Result<(), Stop>
     ensures { Steps draft.new result (faults_in draft.old words.now) }
 {
     match words {
@@ -153,7 +153,7 @@ fn long_how(variables: &[Variable], word: &[u8], more: &[Bytes]) -> Result<How, 
 #[tactic(auto, unfolding(crate::specs::Heads::preserve_in))]
 pub(crate) fn preserve(
     variables: &[Variable],
-    draft: &mut Builder,
+    draft: &mut Draft,
     words: &[Bytes],
 ) -> Result<(), Stop>
     ensures { Steps draft.new result (preserve_in variables.now draft.old words.now) }
@@ -171,7 +171,7 @@ pub(crate) fn preserve(
 }
 
 #[tactic(auto, unfolding(crate::specs::Heads::with_entry_of))]
-fn add_entry(draft: &mut Builder, range: Range, how: How) -> Result<(), Stop>
+fn add_entry(draft: &mut Draft, range: Range, how: How) -> Result<(), Stop>
     ensures { Steps draft.new result (with_entry_of draft.old range how) }
 {
     let at = draft.innermost();
@@ -192,7 +192,7 @@ fn add_entry(draft: &mut Builder, range: Range, how: How) -> Result<(), Stop>
 #[tactic(auto, unfolding(crate::specs::Heads::kind_in))]
 pub(crate) fn kind_statement(
     alloc: Global,
-    draft: &mut Builder,
+    draft: &mut Draft,
     words: &[Bytes],
 ) -> Result<(), Stop>
     ensures { Steps draft.new result (kind_in draft.old words.now) }
@@ -204,7 +204,7 @@ pub(crate) fn kind_statement(
     }
 }
 
-fn add_halting(alloc: Global, draft: &mut Builder, word: &[u8], halt: &[u8]) -> Result<(), Stop>
+fn add_halting(alloc: Global, draft: &mut Draft, word: &[u8], halt: &[u8]) -> Result<(), Stop>
     ensures { Steps draft.new result (if bytes_eq halt.now (codes "halt") then with_kind_named draft.old word.now true else Err Form) }
 {
     if halt == b"halt".as_slice() {
@@ -230,7 +230,7 @@ fn has_kind_named(kinds: &[KindName], word: &[u8]) -> bool
 }
 
 #[tactic(auto, unfolding(crate::specs::Heads::with_kind_named))]
-fn add_kind(alloc: Global, draft: &mut Builder, word: &[u8], halts: bool) -> Result<(), Stop>
+fn add_kind(alloc: Global, draft: &mut Draft, word: &[u8], halts: bool) -> Result<(), Stop>
     ensures { Steps draft.new result (with_kind_named draft.old word.now halts) }
 {
     if !draft.stage.takes_kinds() || !is_kind_name(word) {
@@ -267,7 +267,7 @@ fn words_fit(words: u64, size: u64) -> Result<(), Wrong>
 pub(crate) fn region_statement(
     alloc: Global,
     variables: &[Variable],
-    draft: &mut Builder,
+    draft: &mut Draft,
     words: &[Bytes],
 ) -> Result<(), Stop>
     ensures { Steps draft.new result (region_statement variables.now draft.old words.now) }
@@ -285,7 +285,7 @@ pub(crate) fn region_statement(
 }
 
 fn region_of(
-    draft: &mut Builder,
+    draft: &mut Draft,
     stage: Result<(), Wrong>,
     named: Result<Text, Wrong>,
     size: Result<u64, Wrong>,
@@ -299,7 +299,7 @@ fn region_of(
 }
 
 #[tactic(auto, unfolding(crate::specs::Heads::with_region))]
-fn add_region(draft: &mut Builder, named: Text, size: u64, pattern: Pattern) -> Result<(), Stop>
+fn add_region(draft: &mut Draft, named: Text, size: u64, pattern: Pattern) -> Result<(), Stop>
     ensures { Steps draft.new result (with_region draft.old named size pattern) }
 {
     let word = named.as_str().as_bytes();
@@ -316,7 +316,7 @@ fn add_region(draft: &mut Builder, named: Text, size: u64, pattern: Pattern) -> 
     Ok(())
 }
 
-fn put_region(draft: &mut Builder, named: Text, size: u64, pattern: Pattern) -> Result<(), NoMemory>
+fn put_region(draft: &mut Draft, named: Text, size: u64, pattern: Pattern) -> Result<(), NoMemory>
     ensures { OnOk result (draft.new ≡ record draft.old { stage = Regions; regions = draft.old.regions ++ region_of named size pattern ∷ []; words = draft.old.words + size }) }
 {
     if size >= 4_294_967_296 {
@@ -347,7 +347,7 @@ fn time_in(variables: &[Variable], begin: &[u8], point: &[u8]) -> Result<(u64, u
 #[tactic(auto, unfolding(crate::specs::Heads::damage_in))]
 fn damage_in(
     variables: &[Variable],
-    draft: &Builder,
+    draft: &Draft,
     word: &[u8],
     place: &[u8],
     mask: &[u8],
@@ -368,7 +368,7 @@ fn damage_in(
 pub(crate) fn strike(
     alloc: Global,
     variables: &[Variable],
-    draft: &mut Builder,
+    draft: &mut Draft,
     words: &[Bytes],
 ) -> Result<(), Stop>
     ensures { Steps draft.new result (strike_in variables.now draft.old words.now) }
@@ -392,7 +392,7 @@ pub(crate) fn strike(
 }
 
 fn add_strike(
-    draft: &mut Builder,
+    draft: &mut Draft,
     stage: Result<(), Wrong>,
     path: Result<Text, Wrong>,
     time: Result<(u64, u64), Wrong>,
@@ -413,7 +413,7 @@ fn add_strike(
     add_fault(draft, fault)
 }
 
-fn add_fault(draft: &mut Builder, fault: RawFault) -> Result<(), Stop>
+fn add_fault(draft: &mut Draft, fault: RawFault) -> Result<(), Stop>
     ensures { Steps draft.new result (with_fault draft.old fault) }
 {
     room(
@@ -428,7 +428,7 @@ fn add_fault(draft: &mut Builder, fault: RawFault) -> Result<(), Stop>
 // ---- operations
 
 #[tactic(auto, unfolding(crate::specs::Statements::with_op))]
-fn add_op(draft: &mut Builder, op: Op) -> Result<(), Stop>
+fn add_op(draft: &mut Draft, op: Op) -> Result<(), Stop>
     ensures { Steps draft.new result (with_op draft.old op) }
 {
     let fit = guard(fits(&op), Wrong::Unfit);
@@ -443,7 +443,7 @@ fn add_op(draft: &mut Builder, op: Op) -> Result<(), Stop>
 #[tactic(auto, unfolding(crate::specs::Statements::operation_in))]
 pub(crate) fn operation(
     variables: &[Variable],
-    draft: &mut Builder,
+    draft: &mut Draft,
     keyword: &[u8],
     rest: &[Bytes],
 ) -> Result<(), Stop>
@@ -459,7 +459,7 @@ pub(crate) fn operation(
 
 // group
 #[tactic(auto, unfolding(crate::specs::Heads::group_in))]
-pub(crate) fn group(alloc: Global, draft: &mut Builder, words: &[Bytes]) -> Result<(), Stop>
+pub(crate) fn group(alloc: Global, draft: &mut Draft, words: &[Bytes]) -> Result<(), Stop>
     ensures { Steps draft.new result (group_in draft.old words.now) }
 {
     match words {
@@ -476,7 +476,7 @@ pub(crate) fn group(alloc: Global, draft: &mut Builder, words: &[Bytes]) -> Resu
 
 // end
 #[tactic(auto, unfolding(crate::specs::Heads::end_in))]
-pub(crate) fn end(draft: &mut Builder, words: &[Bytes]) -> Result<(), Stop>
+pub(crate) fn end(draft: &mut Draft, words: &[Bytes]) -> Result<(), Stop>
     ensures { Steps draft.new result (end_in draft.old words.now) }
 {
     match words {
@@ -487,7 +487,7 @@ pub(crate) fn end(draft: &mut Builder, words: &[Bytes]) -> Result<(), Stop>
 
 // ---- domain
 
-fn has_domain_form(draft: &Builder, retry: &[u8], detects: &[u8]) -> bool
+fn has_domain_form(draft: &Draft, retry: &[u8], detects: &[u8]) -> bool
     ensures { result ≡ has_domain_form draft.now retry.now detects.now }
 {
     draft.takes_domains() && (retry == b"retry".as_slice() && detects == b"detects".as_slice())
@@ -522,7 +522,7 @@ fn is_parent(one: Option<NodeId>, other: Option<NodeId>) -> bool
 pub(crate) fn domain(
     alloc: Global,
     variables: &[Variable],
-    draft: &mut Builder,
+    draft: &mut Draft,
     words: &[Bytes],
 ) -> Result<(), Stop>
     ensures { Steps draft.new result (domain_in variables.now draft.old words.now) }
@@ -544,7 +544,7 @@ pub(crate) fn domain(
 
 fn domain_of(
     alloc: Global,
-    draft: &mut Builder,
+    draft: &mut Draft,
     form: Result<(), Wrong>,
     named: Result<Text, Wrong>,
     tries: Result<u64, Wrong>,
@@ -569,7 +569,7 @@ fn retry_fits(tries: u64) -> Result<(), Wrong>
 #[tactic(auto, unfolding(crate::specs::Heads::with_domain))]
 fn add_domain(
     alloc: Global,
-    draft: &mut Builder,
+    draft: &mut Draft,
     named: Text,
     tries: u64,
     kinds: Kinds,
@@ -601,7 +601,7 @@ fn add_domain(
 
 fn put_domain(
     alloc: Global,
-    draft: &mut Builder,
+    draft: &mut Draft,
     named: Text,
     parent: Option<NodeId>,
     tries: u64,

@@ -6,7 +6,7 @@ ghost use Rattle.cd_words.specs.Sums.{is_base};
 ghost use Rattle.cd_parse.specs.Reading.{taken, looped, all_turns, is_variable, loop_limits, bounds_part, loop_bounds, ended, draft_of};
 ghost use Rattle.cd_parse.specs.Turns.{read_from, turn_from, loop_as, ReadsLoop, ReadsTurn};
 
-use crate::draft::Builder;
+use crate::draft::Draft;
 use crate::statements::statement;
 use cd_base::{Bytes, NoMemory};
 use cd_tree::{Refusal, Refuse, Which, limits};
@@ -27,7 +27,7 @@ fn take(
     alloc: Global,
     line: &Line,
     variables: &[Variable],
-    draft: &mut Builder,
+    draft: &mut Draft,
 ) -> Result<(), Refuse>
     ensures { Reads draft.new result (taken variables.now line.now draft.old) }
 {
@@ -125,7 +125,7 @@ fn block(
     after: &[u32],
     from: usize,
     variables: &mut Vec<Variable>,
-    draft: &mut Builder,
+    draft: &mut Draft,
 ) -> Result<(), Refuse>
     requires table { IsTable lines.now after.now 0 }
     requires from { from ≤ length lines.now }
@@ -164,7 +164,7 @@ fn repeat(
     at: usize,
     line: &Line,
     variables: &mut Vec<Variable>,
-    draft: &mut Builder,
+    draft: &mut Draft,
 ) -> Result<(), Refuse>
     requires table { IsTable lines.now after.now 0 }
     requires at { at < length lines.now }
@@ -186,7 +186,7 @@ fn all_turns(
     from: usize,
     header: Header<'_>,
     variables: &mut Vec<Variable>,
-    draft: &mut Builder,
+    draft: &mut Draft,
 ) -> Result<(), Refuse>
     requires table { IsTable lines.now after.now 0 }
     requires from { from ≤ length lines.now }
@@ -219,7 +219,7 @@ fn turn(
     name: Bytes,
     value: u64,
     variables: &mut Vec<Variable>,
-    draft: &mut Builder,
+    draft: &mut Draft,
 ) -> Result<Bytes, Refuse>
     requires table { IsTable lines.now after.now 0 }
     requires from { from ≤ length lines.now }
@@ -242,7 +242,7 @@ fn turn(
 }
 
 /// What a text has said at its end, or why it is no document.
-pub(crate) fn read_draft(alloc: Global, bytes: &[u8]) -> Result<Builder, Refuse>
+pub(crate) fn read_draft(alloc: Global, bytes: &[u8]) -> Result<Draft, Refuse>
     requires { length bytes.now ≤ text_limit }
     ensures { Answers result (draft_of bytes.now) }
 {
@@ -250,7 +250,7 @@ pub(crate) fn read_draft(alloc: Global, bytes: &[u8]) -> Result<Builder, Refuse>
         Ok(layout) => layout,
         Err(refuse) => return Err(refuse),
     };
-    let mut draft = Builder::new(alloc);
+    let mut draft = Draft::new(alloc);
     let mut variables = Vec::new(alloc);
     if let Err(refuse) = block(
         alloc,
@@ -266,7 +266,7 @@ pub(crate) fn read_draft(alloc: Global, bytes: &[u8]) -> Result<Builder, Refuse>
 }
 
 // The end of a text whose lines are fewer than `number` by one.
-fn end(number: u32, draft: Builder) -> Result<Builder, Refuse>
+fn end(number: u32, draft: Draft) -> Result<Draft, Refuse>
     ensures { Answers result (ended number draft) }
 {
     if draft.stage.may_end() {

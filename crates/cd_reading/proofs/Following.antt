@@ -7,7 +7,7 @@ use Rattle.cd_tree.specs.declared.domain.NodeId.{NodeId}
 use Rattle.cd_tree.specs.declared.domain.Domain.{Domain}
 use Rattle.cd_tree.specs.declared.domain.Item.{Item}
 use Rattle.cd_tree.specs.declared.domain.Item.TheVariants.{Run, Group}
-use Rattle.cd_tree.specs.Outlines.{Outline, IsTree, FitsItems, NamesChildren}
+use Rattle.cd_tree.specs.TreeModel.{TreeModel, IsTree, FitsItems, NamesChildren}
 use Rattle.cd_tree.specs.Domains.{Node, Body, members_by, body_by, node_of}
 use Rattle.cd_tree.specs.Laws.{NestedViewFollows}
 use Rattle.cd_tree.specs.Reading.{Case, Counts, counted, Told, TryEnd, NodeEnd, GroupEnd, Try, tries, read_node, read_points, read_members, read_try}
@@ -76,7 +76,7 @@ members_none w domains at so counts ids i whole past left =
 
 -- ---- tries
 
-pub tries_begin : (w : Case) (tree : Outline) → IsTree tree → NestedViewFollows → (id : NodeId) (domain : Domain) (now : Counts)
+pub tries_begin : (w : Case) (tree : TreeModel) → IsTree tree → NestedViewFollows → (id : NodeId) (domain : Domain) (now : Counts)
     → slice_get tree.domains id.0 ≡ Some domain
     → TriesLeft w id domain (body_by (node_of tree.domains) domain.items) (domain.retry - 1) now (read_node w (the_node tree.domains id) now)
 tries_begin w tree is views id domain now there =

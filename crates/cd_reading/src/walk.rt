@@ -2,7 +2,7 @@
 ghost use Rattle.std.specs.Prelude.{◌≡◌, ◌<◌, ◌^◌, ℕ, [], ◌∷◌, Some, length, slice_get, true};
 ghost use Rattle.cd_tree.specs.Domains.{body_by, members_by, node_of};
 ghost use Rattle.cd_tree.specs.KindSets.{no_kinds};
-ghost use Rattle.cd_tree.specs.Outlines.{FitsItems, NamesChildren};
+ghost use Rattle.cd_tree.specs.TreeModel.{FitsItems, NamesChildren};
 ghost use Rattle.cd_tree.specs.Reading.{Counts, Told, TryEnd, read_node, read_try, read_points, read_members};
 ghost use Rattle.cd_reading.specs.Cases.{IsCase, domains_of, given};
 ghost use Rattle.cd_reading.specs.Ends.{try_end, node_end, group_end, TryFits, NodeFits, GroupFits};

@@ -1,6 +1,6 @@
 ghost use Rattle.std.specs.Prelude.{◌≡◌, ◌<◌, ◌^◌, length, IfOk, string_bytes};
 ghost use Rattle.cd_base.specs.Ends.{WriteAll};
-ghost use Rattle.cd_tree.specs.Outlines.{IsTree};
+ghost use Rattle.cd_tree.specs.TreeModel.{IsTree};
 ghost use Rattle.cd_report.specs.Texts.{accepted_line, item_count, entry_count, word_count};
 
 use cd_base::{Sink, WriteStop, write_all};

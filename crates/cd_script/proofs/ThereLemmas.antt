@@ -13,7 +13,7 @@ use Rattle.cd_tree.specs.declared.refusal.Refusal.{Refusal}
 use Rattle.cd_tree.specs.declared.refusal.Refusal.TheVariants.{UnknownPath, NoSuchItem, OutsideReach, Undetected}
 use Rattle.cd_tree.specs.KindSets.{has_kind}
 use Rattle.cd_tree.specs.Laws.{DetectableByPaths}
-use Rattle.cd_tree.specs.Outlines.{Outline, IsTree}
+use Rattle.cd_tree.specs.TreeModel.{TreeModel, IsTree}
 use Rattle.cd_tree.specs.Paths.{path_text_of, IsNoPath}
 use Rattle.cd_tree.specs.Refusals.{FirstOf, numbered}
 use Rattle.cd_tree.specs.Scripts.{CanStrike, IsAccepted, declared_for}
@@ -106,12 +106,12 @@ pub first_fault_there : FirstFaultIsThere
 first_fault_there domains faults = first_there (FaultOf domains) (fault_there domains) (numbered 1 faults)
 
 -- a script that is found as these faults, of which each entry can strike and is declared
-pub record IsFound (tree : Outline) (raws : List RawFault) (script : List Fault) : Type 0 where
+pub record IsFound (tree : TreeModel) (raws : List RawFault) (script : List Fault) : Type 0 where
   pub found : AreFoundAs tree.domains raws script
   pub strikes : All (CanStrike tree) script
   pub declared : All (IsDeclared tree.domains) script
 
-one_found : (tree : Outline) (at : ℕ) (raw : RawFault) (raws : List RawFault) (script : List Fault) → FaultOf tree.domains (at, raw) None
+one_found : (tree : TreeModel) (at : ℕ) (raw : RawFault) (raws : List RawFault) (script : List Fault) → FaultOf tree.domains (at, raw) None
     → IsFound tree raws script → (whole : List Fault) × IsFound tree (raw ∷ raws) whole
 one_found tree at raw raws script (id, path, has) rest =
     let fault : Fault = record { node = id; begin = raw.begin; item = raw.item; kind = raw.kind; place = raw.place; mask = raw.mask } in
@@ -124,7 +124,7 @@ one_found tree at raw raws script (id, path, has) rest =
       },
     )
 
-all_found : (tree : Outline) (at : ℕ) (raws : List RawFault) → FirstOf (FaultOf tree.domains) (numbered at raws) None
+all_found : (tree : TreeModel) (at : ℕ) (raws : List RawFault) → FirstOf (FaultOf tree.domains) (numbered at raws) None
     → (script : List Fault) × IsFound tree raws script
 all_found tree at [] none = (
   [],
@@ -134,7 +134,7 @@ all_found tree at (raw ∷ raws) (here, rest) =
     let behind = all_found tree (suc at) raws rest in one_found tree at raw raws behind.0 here behind.1
 
 -- where none is refused, they are found as a script that is accepted
-pub script_there : DetectableByPaths → (tree : Outline) → IsTree tree → (faults : List RawFault) → FirstFault tree.domains faults None
+pub script_there : DetectableByPaths → (tree : TreeModel) → IsTree tree → (faults : List RawFault) → FirstFault tree.domains faults None
     → (script : List Fault) × AreFoundAs tree.domains faults script × IsAccepted tree script
 script_there detectable tree is faults none =
     let all = all_found tree 1 faults none in (

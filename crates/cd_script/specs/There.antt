@@ -4,7 +4,7 @@ use Rattle.cd_tree.specs.declared.domain.Domain.{Domain}
 use Rattle.cd_tree.specs.declared.document.RawFault.{RawFault}
 use Rattle.cd_tree.specs.declared.document.Fault.{Fault}
 use Rattle.cd_tree.specs.declared.refusal.Refusal.{Refusal}
-use Rattle.cd_tree.specs.Outlines.{Outline, IsTree}
+use Rattle.cd_tree.specs.TreeModel.{TreeModel, IsTree}
 use Rattle.cd_tree.specs.Scripts.{IsAccepted}
 use Rattle.cd_script.specs.Acceptance.{FirstFault, AreFoundAs}
 
@@ -15,5 +15,5 @@ FirstFaultIsThere = (domains : List Domain) (faults : List RawFault) → (answer
 -- where none is refused, they are found as a script that is accepted
 abbrev pub ScriptIsThere : Type 0
 ScriptIsThere =
-    (tree : Outline) → IsTree tree → (faults : List RawFault) → FirstFault tree.domains faults None
+    (tree : TreeModel) → IsTree tree → (faults : List RawFault) → FirstFault tree.domains faults None
     → (script : List Fault) × AreFoundAs tree.domains faults script × IsAccepted tree script

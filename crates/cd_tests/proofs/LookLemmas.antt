@@ -15,7 +15,7 @@ use Rattle.cd_words.specs.Blocks.{marked_lines}
 use Rattle.cd_words.specs.Sums.{atom, times, term, plus, expression}
 use Rattle.cd_words.specs.Names.{name, path}
 use Rattle.cd_words.specs.Kinds.{kind, kind_set, pattern}
-use Rattle.cd_field.specs.Machine.{Machine}
+use Rattle.cd_field.specs.FieldModel.{FieldModel}
 use Rattle.cd_app.specs.declared.status.Status.{Status}
 use Rattle.cd_app.specs.declared.status.Status.TheVariants.{Done, Exhausted, Usage, Refused, ReadFault, WriteFault, NoMemory, NotBuilt}
 use Rattle.cd_app.specs.Running.{HoldsRun}

@@ -5,7 +5,7 @@ use Rattle.cd_tree.specs.declared.document.Region.{Region}
 use Rattle.cd_tree.specs.declared.document.Document.{Document}
 use Rattle.cd_tree.specs.declared.refusal.Refusal.{Refusal}
 use Rattle.cd_parse.specs.Reading.{parse}
-use Rattle.cd_field.specs.Machine.{Machine, IsPresent}
+use Rattle.cd_field.specs.FieldModel.{FieldModel, IsPresent}
 use Rattle.cd_app.specs.Deeds.{one_document, runs, deed_in}
 use Rattle.cd_app.specs.declared.status.Status.{Status}
 use Rattle.cd_app.specs.declared.status.Status.TheVariants.{Done, Exhausted, WriteFault}
@@ -29,7 +29,7 @@ HasFourWordsLeft None = ⊥
 HasFourWordsLeft (Some text) = HasFourWords text
 
 -- the first four words of the first region are in the machine
-pub record FourArePresent (m : Machine) : Type 0 where
+pub record FourArePresent (m : FieldModel) : Type 0 where
   pub each : (i : ℕ) → i < 4 → IsPresent m (record { region = 0; index = i })
 
 -- the words ask for a run, with its record or without

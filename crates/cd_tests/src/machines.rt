@@ -46,7 +46,7 @@ fn runs<S: Source, K: Sink, F: Field>(
 ) -> bool
     requires run { IsRun words.now false }
     requires text { HasFourWordsLeft (S.model source.old).left }
-    ensures { IsTrue result → FourArePresent (F.state machine.new) }
+    ensures { IsTrue result → FourArePresent (F.model machine.new) }
 {
     laws::words_stay();
     let status = run_cd(alloc, words, source, sink, machine);

@@ -7,7 +7,7 @@ use Rattle.cd_tree.specs.declared.domain.Item.{Item}
 use Rattle.cd_tree.specs.declared.domain.Item.TheVariants.{Run, Group}
 use Rattle.cd_tree.specs.declared.domain.Domain.{Domain}
 use Rattle.cd_tree.specs.Domains.{Node, node, put_first, members_by, body_by, nodes_from, node_of, number_of, node_numbers, body_numbers, member_numbers, numbers_from}
-use Rattle.cd_tree.specs.Outlines.{Outline, IsTree, NamesChildren, FitsItems}
+use Rattle.cd_tree.specs.TreeModel.{TreeModel, IsTree, NamesChildren, FitsItems}
 use Rattle.cd_tree.specs.Slices.{node_size, IsSlice, slice_end, children_in, FillSlice}
 use Rattle.cd_tree.proofs.View.{domain_fits, nested_view_follows}
 use Rattle.cd_tree.proofs.Walk.{length-numbers_from, Parts, numbers_parted}
@@ -45,12 +45,12 @@ abbrev AllThere : List Domain → List NodeId → Type 0
 AllThere domains [] = Unit {0}
 AllThere domains (id ∷ ids) = ((d : Node) × (node_of domains id ≡ Some d)) × AllThere domains ids
 
-all_there : (tree : Outline) → IsTree tree → (at : ℕ) (ids : List NodeId) → NamesChildren tree.domains at ids → AllThere tree.domains ids
+all_there : (tree : TreeModel) → IsTree tree → (at : ℕ) (ids : List NodeId) → NamesChildren tree.domains at ids → AllThere tree.domains ids
 all_there tree is at [] named = tt
 all_there tree is at (id ∷ ids) (above, child, named) =
     (view_there tree is at id (slice_get tree.domains id.0) refl child, all_there tree is at ids named)
   where
-    view_there : (tree : Outline) → IsTree tree → (at : ℕ) (id : NodeId) (found : Option Domain) → slice_get tree.domains id.0 ≡ found
+    view_there : (tree : TreeModel) → IsTree tree → (at : ℕ) (id : NodeId) (found : Option Domain) → slice_get tree.domains id.0 ≡ found
         → IsSomeAnd found (λ child. child.parent ≡ Some (record { 0 = at })) → (d : Node) × (node_of tree.domains id ≡ Some d)
     view_there tree is at id None same child = absurd child
     view_there tree is at id (Some domain) same child =
@@ -72,7 +72,7 @@ fill_members domains (id ∷ ids) more at n behind end ((d, found), there) is en
     fill_first domains id ids more d at end found parts.front
     (fill_members domains ids more (at + node_size d) (n - node_size d) behind end there parts.back (omega arith) rest)
 
-fill_items : (tree : Outline) → IsTree tree → (parent : ℕ) (items : List Item) (at n end : ℕ) → FitsItems tree.domains parent items
+fill_items : (tree : TreeModel) → IsTree tree → (parent : ℕ) (items : List Item) (at n end : ℕ) → FitsItems tree.domains parent items
     → body_numbers (body_by (node_of tree.domains) items) ≡ numbers_from at n → at + n ≡ end → FillSlice tree.domains at (children_in items) end
 fill_items tree is parent [] at n end fits run ends =
     let none : 0 ≡ n = run_length [] at n run in
@@ -86,7 +86,7 @@ fill_items tree is parent (Group ids ∷ items) at n end (some, few, named, fits
     fill_members tree.domains ids (children_in items) at (length here) (at + length here) end (all_there tree is parent ids named) parts.front refl
     (fill_items tree is parent items (at + length here) (n - length here) end fits parts.back (omega arith))
 
-pub children_fill_slices : (tree : Outline) → IsTree tree → (id : NodeId) (domain : Domain) → slice_get tree.domains id.0 ≡ Some domain
+pub children_fill_slices : (tree : TreeModel) → IsTree tree → (id : NodeId) (domain : Domain) → slice_get tree.domains id.0 ≡ Some domain
     → FillSlice tree.domains (suc id.0) (children_in domain.items) (slice_end tree.domains id)
 children_fill_slices tree is id domain there =
     let below : List ℕ = body_numbers (body_by (node_of tree.domains) domain.items) in
@@ -102,7 +102,7 @@ children_fill_slices tree is id domain there =
     sums id n = omega arith
 
 -- a domain's slice ends behind the domain, and within the program
-pub slice_ends : (tree : Outline) → IsTree tree → (id : NodeId) → id.0 < length tree.domains
+pub slice_ends : (tree : TreeModel) → IsTree tree → (id : NodeId) → id.0 < length tree.domains
     → (id.0 < slice_end tree.domains id) × (slice_end tree.domains id ≤ length tree.domains)
 slice_ends tree is id within =
     ends (get_or tree.domains id.0 nobody) (slice_get-get_or tree.domains id.0 nobody within)

@@ -5,7 +5,7 @@ use Rattle.cd_tree.specs.declared.domain.NodeId.{NodeId}
 use Rattle.cd_tree.specs.declared.domain.Item.{Item}
 use Rattle.cd_tree.specs.declared.domain.Item.TheVariants.{Run, Group}
 use Rattle.cd_tree.specs.declared.domain.Domain.{Domain}
-use Rattle.cd_tree.specs.Outlines.{Outline, IsTree}
+use Rattle.cd_tree.specs.TreeModel.{TreeModel, IsTree}
 use Rattle.cd_tree.specs.Slices.{slice_end, children_in, FillSlice}
 use Rattle.cd_tree.proofs.Walk.{ahead_read}
 use Rattle.cd_tree.proofs.Filled.{children_fill_slices, slice_ends}
@@ -61,7 +61,7 @@ pub record LastChild (domains : List Domain) (id last : NodeId) : Type 0 where
   pub there : last.0 < length domains
   pub same : slice_end domains last ≡ slice_end domains id
 
-pub last_child : (tree : Outline) → IsTree tree → (id : NodeId) (domain : Domain) (items : List Item) (last : NodeId)
+pub last_child : (tree : TreeModel) → IsTree tree → (id : NodeId) (domain : Domain) (items : List Item) (last : NodeId)
     → slice_get tree.domains id.0 ≡ Some domain → id.0 < length tree.domains → items ≡ domain.items
     → IsLast (children_in items) last → LastChild tree.domains id last
 last_child tree is id domain items last there within same (front, ends) =
@@ -77,7 +77,7 @@ last_child tree is id domain items last there within same (front, ends) =
     record { later = omega arith; there = omega arith; same = at_end.same }
 
 -- a domain without children ends its slice
-pub no_child : (tree : Outline) → IsTree tree → (id : NodeId) (domain : Domain) (items : List Item)
+pub no_child : (tree : TreeModel) → IsTree tree → (id : NodeId) (domain : Domain) (items : List Item)
     → slice_get tree.domains id.0 ≡ Some domain → items ≡ domain.items → children_in items ≡ [] → suc id.0 ≡ slice_end tree.domains id
 no_child tree is id domain items there same none =
     subst (λ (ids : List NodeId). FillSlice tree.domains (suc id.0) ids (slice_end tree.domains id)) (ap children_in (sym same) ∙ none)

@@ -13,7 +13,7 @@ use Rattle.cd_tree.specs.declared.event.Kept.{Kept}
 use Rattle.cd_tree.specs.declared.event.Kept.TheVariants as kept
 use Rattle.cd_tree.specs.declared.event.Event.{Event}
 use Rattle.cd_tree.specs.declared.event.Event.TheVariants.{Begin, Saved, Fell, Lapsed, Refilled, Reached, Halted, Found, Complete, Escalate}
-use Rattle.cd_tree.specs.Outlines.{Outline}
+use Rattle.cd_tree.specs.TreeModel.{TreeModel}
 use Rattle.cd_tree.specs.Reading.{how_kept}
 use Rattle.cd_tree.specs.Legal.{entry_at, OfPattern, IsPatternAnd, GivesWords, Differs, DiffersFirst, MayStand, MayFall, Legal, nothing, same, fell, lapsed}
 use Rattle.cd_tree.specs.LegalLaws.{LegalPieces, SavesAsDeclared, HasPatternWords, LegalFrontsGoOn, LegalFrontsOfRecords, LegalFront, nothing_yet, same_so_far, fell_so_far, falling, lapsed_so_far, lapsing, LegalFrontsAreFronts}
@@ -21,7 +21,7 @@ use Rattle.cd_tree.proofs.Apart.{Within, within}
 use Rattle.cd_tree.proofs.EventsTold.{Every, every_all}
 use Rattle.cd_tree.proofs.SavesDeclared.{records_save}
 
-legal_append : {tree : Outline} {loaded : Words} {actual expected more rest : List Event}
+legal_append : {tree : TreeModel} {loaded : Words} {actual expected more rest : List Event}
     → Legal tree loaded actual expected → Legal tree loaded more rest → Legal tree loaded (actual ++ more) (expected ++ rest)
 legal_append nothing second = second
 legal_append (same event actual expected stands first) second =
@@ -100,20 +100,20 @@ gives_or_not w r pattern words =
     ]
 
 -- an event can be told as the reading has it, or a fall can
-abbrev CanBeTold : Outline → Words → Event → Type 0
+abbrev CanBeTold : TreeModel → Words → Event → Type 0
 CanBeTold tree loaded event =
     (front : List Event) × ((more rest : List Event) → Legal tree loaded more rest → Legal tree loaded (front ++ more) (event ∷ rest))
 
-stand : (tree : Outline) (loaded : Words) (event : Event) → MayStand tree loaded event → CanBeTold tree loaded event
+stand : (tree : TreeModel) (loaded : Words) (event : Event) → MayStand tree loaded event → CanBeTold tree loaded event
 stand tree loaded event stands = (event ∷ [], λ more rest legal. same event more rest stands legal)
 
-fall : (tree : Outline) (loaded : Words) (id : NodeId) (entry : ℕ) (place : Place) (wanted found : ℕ)
+fall : (tree : TreeModel) (loaded : Words) (id : NodeId) (entry : ℕ) (place : Place) (wanted found : ℕ)
     → MayFall tree loaded id entry place wanted found → CanBeTold tree loaded (Saved id entry kept.Regen)
 fall tree loaded id entry place wanted found falls =
     (Fell id entry place wanted found ∷ Saved id entry kept.Copy ∷ [], λ more rest legal. fell id entry place wanted found more rest falls legal)
 
 -- an entry that is there, and how it is preserved
-by_words : (tree : Outline) (loaded : Words) (id : NodeId) (entry : ℕ) (e : Entry) (pattern : Pattern) → entry_at tree.domains id entry ≡ Some e
+by_words : (tree : TreeModel) (loaded : Words) (id : NodeId) (entry : ℕ) (e : Entry) (pattern : Pattern) → entry_at tree.domains id entry ≡ Some e
     → e.how ≡ Regen pattern → GivesWords loaded e.range pattern ⊎ LeastOther loaded e.range pattern
     → CanBeTold tree loaded (Saved id entry kept.Regen)
 by_words tree loaded id entry e pattern there how words =
@@ -132,7 +132,7 @@ by_words tree loaded id entry e pattern there how words =
           })
     ]
 
-by_how : (tree : Outline) (loaded : Words) (id : NodeId) (entry : ℕ) (e : Entry) (how : How) → HasPatternWords tree loaded
+by_how : (tree : TreeModel) (loaded : Words) (id : NodeId) (entry : ℕ) (e : Entry) (how : How) → HasPatternWords tree loaded
     → entry_at tree.domains id entry ≡ Some e → e.how ≡ how → kept.Regen ≡ how_kept how → id.0 ≡ 0
     → CanBeTold tree loaded (Saved id entry kept.Regen)
 by_how tree loaded id entry e Copy words there how is root = cc
@@ -143,13 +143,13 @@ by_how tree loaded id entry e (Regen pattern) words there how is root =
     by_words tree loaded id entry e pattern there how
     (gives_or_not loaded e.range pattern (λ p inside. words entry e pattern p at_root how inside))
 
-by_entry : (tree : Outline) (loaded : Words) (id : NodeId) (entry : ℕ) (o : Option Entry) → HasPatternWords tree loaded
+by_entry : (tree : TreeModel) (loaded : Words) (id : NodeId) (entry : ℕ) (o : Option Entry) → HasPatternWords tree loaded
     → entry_at tree.domains id entry ≡ o → IsSomeAnd o (λ e. kept.Regen ≡ how_kept e.how) → id.0 ≡ 0
     → CanBeTold tree loaded (Saved id entry kept.Regen)
 by_entry tree loaded id entry None words there is root = absurd is
 by_entry tree loaded id entry (Some e) words there is root = by_how tree loaded id entry e e.how words there refl is root
 
-saved_told : (tree : Outline) (loaded : Words) (id : NodeId) (entry : ℕ) (how : Kept) → HasPatternWords tree loaded
+saved_told : (tree : TreeModel) (loaded : Words) (id : NodeId) (entry : ℕ) (how : Kept) → HasPatternWords tree loaded
     → SavesAsDeclared tree (Saved id entry how) → CanBeTold tree loaded (Saved id entry how)
 saved_told tree loaded id entry kept.Copy words is = stand tree loaded (Saved id entry kept.Copy) tt
 saved_told tree loaded id entry kept.Refer words is = stand tree loaded (Saved id entry kept.Refer) tt
@@ -159,7 +159,7 @@ saved_told tree loaded id entry kept.Regen words is =
       | inr inner ↦ stand tree loaded (Saved id entry kept.Regen) (λ root. absurd (inner root))
     ]
 
-can_be_told : (tree : Outline) (loaded : Words) (event : Event) → HasPatternWords tree loaded → SavesAsDeclared tree event
+can_be_told : (tree : TreeModel) (loaded : Words) (event : Event) → HasPatternWords tree loaded → SavesAsDeclared tree event
     → CanBeTold tree loaded event
 can_be_told tree loaded (Begin id number) words is = stand tree loaded (Begin id number) tt
 can_be_told tree loaded (Saved id entry how) words is = saved_told tree loaded id entry how words is
@@ -173,7 +173,7 @@ can_be_told tree loaded (Complete id) words is = stand tree loaded (Complete id)
 can_be_told tree loaded (Escalate id) words is = stand tree loaded (Escalate id) tt
 
 -- whatever the reading expects can be told
-rest_told : (tree : Outline) (loaded : Words) (rest : List Event) → HasPatternWords tree loaded → Every (SavesAsDeclared tree) rest
+rest_told : (tree : TreeModel) (loaded : Words) (rest : List Event) → HasPatternWords tree loaded → Every (SavesAsDeclared tree) rest
     → (more : List Event) × Legal tree loaded more rest
 rest_told tree loaded [] words every = ([], nothing)
 rest_told tree loaded (event ∷ rest) words (here, every) =
@@ -197,7 +197,7 @@ legal_fronts_of_records tree faults loaded is words actual front rest e legal =
     let others : (more : List Event) × Legal tree loaded more rest = rest_told tree loaded rest words (every_behind (SavesAsDeclared tree) front rest every) in
     (others.0, subst (Legal tree loaded (actual ++ others.0)) e (legal_append legal others.1))
 
-front_goes_on : {tree : Outline} {loaded : Words} {actual expected : List Event} → HasPatternWords tree loaded
+front_goes_on : {tree : TreeModel} {loaded : Words} {actual expected : List Event} → HasPatternWords tree loaded
     → LegalFront tree loaded actual expected → Every (SavesAsDeclared tree) expected
     → (more : List Event) × Legal tree loaded (actual ++ more) expected
 front_goes_on words (nothing_yet expected) every = rest_told _ _ expected words every
@@ -217,7 +217,7 @@ front_goes_on words (lapsing id entry seen found expected gone) (here, every) =
     let on = rest_told _ _ expected words every in
     (Saved id entry kept.Copy ∷ on.0, lapsed id entry seen found _ _ gone on.1)
 
-front_of_legal : {tree : Outline} {loaded : Words} {whole expected : List Event} → Legal tree loaded whole expected
+front_of_legal : {tree : TreeModel} {loaded : Words} {whole expected : List Event} → Legal tree loaded whole expected
     → (actual more : List Event) → whole ≡ actual ++ more → LegalFront tree loaded actual expected
 front_of_legal legal [] more e = nothing_yet _
 front_of_legal nothing (first ∷ actual) more e = absurd (cc)

@@ -8,7 +8,7 @@ use Rattle.cd_tree.specs.declared.domain.Item.TheVariants.{Run, Group}
 use Rattle.cd_tree.specs.declared.domain.Domain.{Domain}
 use Rattle.cd_tree.specs.declared.groups.GroupPlace.{GroupPlace}
 use Rattle.cd_tree.specs.Domains.{Node, Body, Members, node, stop, run, group, no_more, member, put_first, members_by, body_by, nodes_from, node_of, root_of, number_of, body_of, node_numbers, body_numbers, member_numbers, numbers_from, Throughout, ThroughoutBody, ThroughoutMembers}
-use Rattle.cd_tree.specs.Outlines.{Outline, IsTree, NamesChildren, FitsItems}
+use Rattle.cd_tree.specs.TreeModel.{TreeModel, IsTree, NamesChildren, FitsItems}
 use Rattle.cd_tree.specs.Laws.{OfEach}
 use Rattle.cd_tree.specs.Slices.{children_in, FillSlice, slice_end}
 use Rattle.cd_tree.specs.Groups.{HasMember, StandsAt, StandsIn}
@@ -88,7 +88,7 @@ stands_by domains parent above item place id there stands =
       stands = subst (λ (o : Option Domain). IsSomeAnd o (λ d. StandsAt d.items id item place)) (sym there) stands;
     }
 
-children_stand_by : (tree : Outline) → IsTree tree → OfEach tree (ChildrenHave (Stands tree.domains))
+children_stand_by : (tree : TreeModel) → IsTree tree → OfEach tree (ChildrenHave (Stands tree.domains))
 children_stand_by tree is id d found =
     let behind : Behind tree.domains id d = behind_view tree is id d found in
     let finds : FindsNumbers (node_of tree.domains) = λ i e there. number_there 0 tree.domains i.0 e there ∙ omega arith in
@@ -103,7 +103,7 @@ numbers_of_body : (d : Node) (n : ℕ) → node_numbers d ≡ numbers_from 0 (su
 numbers_of_body (node id domain body) n is = cc
 
 -- each domain but the first stands somewhere
-pub stands_somewhere : (tree : Outline) → IsTree tree → (k : ℕ) → 0 < k → k < length tree.domains → Stands tree.domains k
+pub stands_somewhere : (tree : TreeModel) → IsTree tree → (k : ℕ) → 0 < k → k < length tree.domains → Stands tree.domains k
 stands_somewhere tree is k some within =
     let Q : ℕ → Type 0 = Stands tree.domains in
     let many : length tree.domains ≡ suc (length tree.domains - 1) = omega arith in
@@ -150,7 +150,7 @@ above domains parent id at stands = by_found (slice_get domains parent.0) refl s
     by_found None is stands = absurd stands
     by_found (Some domain) is stands = record { domain = domain; there = is; stands = stands }
 
-pub members_are_children : (tree : Outline) → IsTree tree → (parent id : NodeId) (at : GroupPlace) → StandsIn tree.domains parent id at
+pub members_are_children : (tree : TreeModel) → IsTree tree → (parent id : NodeId) (at : GroupPlace) → StandsIn tree.domains parent id at
     → (parent.0 < id.0) × IsSomeAnd (slice_get tree.domains id.0) (λ child. child.parent ≡ Some parent)
 members_are_children tree is parent id at stands =
     let over : Above tree.domains parent id at = above tree.domains parent id at stands in
@@ -158,7 +158,7 @@ members_are_children tree is parent id at stands =
     (domain_fits tree is parent over.domain over.there).items over.stands
 
 -- what has a parent is not the root
-not_first : (tree : Outline) → IsTree tree → (id parent : NodeId) (domain : Domain) → slice_get tree.domains id.0 ≡ Some domain
+not_first : (tree : TreeModel) → IsTree tree → (id parent : NodeId) (domain : Domain) → slice_get tree.domains id.0 ≡ Some domain
     → domain.parent ≡ Some parent → 0 < id.0
 not_first tree is id parent domain there up =
     elim (cases_eq 0 id.0) [
@@ -169,7 +169,7 @@ not_first tree is id parent domain there up =
       | inr later ↦ omega arith
     ]
 
-pub children_stand : (tree : Outline) → IsTree tree → (id parent : NodeId) (domain : Domain) → slice_get tree.domains id.0 ≡ Some domain
+pub children_stand : (tree : TreeModel) → IsTree tree → (id parent : NodeId) (domain : Domain) → slice_get tree.domains id.0 ≡ Some domain
     → domain.parent ≡ Some parent → (at : GroupPlace) × StandsIn tree.domains parent id at
 children_stand tree is id parent domain there up =
     let some : 0 < id.0 = not_first tree is id parent domain there up in
@@ -280,7 +280,7 @@ same_place at there (items, members) =
     let make : ℕ → ℕ → GroupPlace = λ item member. record { item = item; member = member } in
     ap (λ (k : ℕ). make k at.member) items ∙ ap (make there.item) members
 
-pub children_stand_once : (tree : Outline) → IsTree tree → (id one other : NodeId) (at there : GroupPlace)
+pub children_stand_once : (tree : TreeModel) → IsTree tree → (id one other : NodeId) (at there : GroupPlace)
     → StandsIn tree.domains one id at → StandsIn tree.domains other id there → (one ≡ other) × (at ≡ there)
 children_stand_once tree is id one other at there first second =
     let parent : IsChildOf tree.domains one id = members_are_children tree is one id at first in

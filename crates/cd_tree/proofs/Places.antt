@@ -4,7 +4,7 @@ use Rattle.cd_tree.specs.declared.domain.NodeId.{NodeId}
 use Rattle.cd_tree.specs.declared.domain.Item.{Item}
 use Rattle.cd_tree.specs.declared.domain.Domain.{Domain}
 use Rattle.cd_tree.specs.declared.groups.GroupPlace.{GroupPlace}
-use Rattle.cd_tree.specs.Outlines.{Outline, IsTree}
+use Rattle.cd_tree.specs.TreeModel.{TreeModel, IsTree}
 use Rattle.cd_tree.specs.Groups.{StandsAt, StandsIn, IsPlaceUnder, IsPlaceOf}
 use Rattle.cd_tree.proofs.Named.{children_stand}
 
@@ -32,7 +32,7 @@ found_under domains parent id above items None there same (at, stands) finds =
 found_under domains parent id above items (Some place) there same stands finds =
     stands_by domains parent id above items place there same finds
 
-pub place_found : (tree : Outline) → IsTree tree → (id parent : NodeId) (domain above : Domain) (items : List Item) (found : Option GroupPlace)
+pub place_found : (tree : TreeModel) → IsTree tree → (id parent : NodeId) (domain above : Domain) (items : List Item) (found : Option GroupPlace)
     → slice_get tree.domains id.0 ≡ Some domain → domain.parent ≡ Some parent → slice_get tree.domains parent.0 ≡ Some above
     → items ≡ above.items → Finds items id found → IsPlaceOf tree.domains id found
 place_found tree is id parent domain above items found there up over same finds =

@@ -5,7 +5,7 @@ use Rattle.cd_tree.specs.declared.domain.NodeId.{NodeId}
 use Rattle.cd_tree.specs.declared.domain.Entry.{Entry}
 use Rattle.cd_tree.specs.declared.domain.Domain.{Domain}
 use Rattle.cd_tree.specs.Domains.{Node, root_of, nodes_from, Throughout}
-use Rattle.cd_tree.specs.Outlines.{Outline, IsTree}
+use Rattle.cd_tree.specs.TreeModel.{TreeModel, IsTree}
 use Rattle.cd_tree.specs.Reading.{how_kept, saved_from, no_begins, read_node}
 use Rattle.cd_tree.specs.Record.{record_of, case_of}
 use Rattle.cd_tree.specs.Legal.{entry_at}
@@ -14,7 +14,7 @@ use Rattle.cd_tree.proofs.EachDomain.{Behind, behind_view, views_throughout, roo
 use Rattle.cd_tree.proofs.EventsTold.{Every, all_every, Tells, TellsAll, node_all}
 
 -- the entries from `at` on of a domain that is there
-saved_as_declared : (tree : Outline) (id : NodeId) (at : ℕ) (entries : List Entry)
+saved_as_declared : (tree : TreeModel) (id : NodeId) (at : ℕ) (entries : List Entry)
     → ((k : ℕ) → entry_at tree.domains id (at + k) ≡ slice_get entries k) → Every (SavesAsDeclared tree) (saved_from id at entries)
 saved_as_declared tree id at [] same = tt
 saved_as_declared tree id at (entry ∷ entries) same =
@@ -25,7 +25,7 @@ saved_as_declared tree id at (entry ∷ entries) same =
           (λ k. let next : suc at + k ≡ at + suc k = omega arith in ap (entry_at tree.domains id) next ∙ same (suc k)),
     )
 
-saves_there : (tree : Outline) (id : NodeId) (domain : Domain) → slice_get tree.domains id.0 ≡ Some domain
+saves_there : (tree : TreeModel) (id : NodeId) (domain : Domain) → slice_get tree.domains id.0 ≡ Some domain
     → Every (SavesAsDeclared tree) (saved_from id 0 domain.entries)
 saves_there tree id domain is =
     saved_as_declared tree id 0 domain.entries
@@ -34,11 +34,11 @@ saves_there tree id domain is =
     ap (entry_at tree.domains id) same
     ∙ ap (λ (o : Option Domain). option_and_then (λ (domain : Domain). slice_get domain.entries k) o) is)
 
-no_other_saves : (tree : Outline) (id : NodeId) → Tells (SavesAsDeclared tree) id
+no_other_saves : (tree : TreeModel) (id : NodeId) → Tells (SavesAsDeclared tree) id
 no_other_saves tree id =
     record { begin = λ n. tt; refilled = λ n. tt; reached = λ n. tt; halted = λ n. tt; found = λ n. tt; complete = tt; escalate = tt }
 
-there_throughout : (tree : Outline) → IsTree tree → (k : ℕ) (d : Node) → slice_get (nodes_from 0 tree.domains) k ≡ Some d
+there_throughout : (tree : TreeModel) → IsTree tree → (k : ℕ) (d : Node) → slice_get (nodes_from 0 tree.domains) k ≡ Some d
     → Throughout (TellsAll (SavesAsDeclared tree)) d
 there_throughout tree is k d found =
     views_throughout (TellsAll (SavesAsDeclared tree)) 0 tree.domains

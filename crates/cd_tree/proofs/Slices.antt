@@ -5,7 +5,7 @@ use Rattle.std.proofs.lemmas.List.{length-append}
 use Rattle.cd_tree.specs.declared.domain.NodeId.{NodeId}
 use Rattle.cd_tree.specs.declared.domain.Domain.{Domain}
 use Rattle.cd_tree.specs.Domains.{Node, Body, Members, node, stop, run, group, no_more, member, node_of, root_of, number_of, body_of, node_numbers, body_numbers, member_numbers, numbers_from, Throughout, ThroughoutBody, ThroughoutMembers}
-use Rattle.cd_tree.specs.Outlines.{Outline, IsTree}
+use Rattle.cd_tree.specs.TreeModel.{TreeModel, IsTree}
 use Rattle.cd_tree.specs.Laws.{OfEach}
 use Rattle.cd_tree.specs.Slices.{node_size, members_size, IsSlice, among, in_slice, MembersFollow, GroupsFollow}
 use Rattle.cd_tree.proofs.Walk.{length-numbers_from, Parts, numbers_parted}
@@ -77,12 +77,12 @@ mutual
         members_sliced rest (at + length (node_numbers first)) (n - length (node_numbers first)) end parts.back (omega arith),
       )
 
-pub slices_end_within : (tree : Outline) → IsTree tree → OfEach tree (EndsWithin (length tree.domains))
+pub slices_end_within : (tree : TreeModel) → IsTree tree → OfEach tree (EndsWithin (length tree.domains))
 slices_end_within tree is =
     of_each tree is (EndsWithin (length tree.domains))
     (node_sliced (root_of tree.domains) 0 (length tree.domains) (length tree.domains) is.preorder (omega arith))
 
-pub subtrees_are_slices : (tree : Outline) → IsTree tree → OfEach tree IsSlice
+pub subtrees_are_slices : (tree : TreeModel) → IsTree tree → OfEach tree IsSlice
 subtrees_are_slices tree is id d found = (slices_end_within tree is id d found).slice
 
 -- the numbers of a run are those from its first to before its end
@@ -97,7 +97,7 @@ among_run at (suc many) n =
     one_more : (at many n : ℕ) → (n == at) || in_slice (suc at) many n ≡ in_slice at (suc many) n
     one_more at many n = grind (arith, nat_tests)
 
-pub slices_have_their_numbers : (tree : Outline) → IsTree tree
+pub slices_have_their_numbers : (tree : TreeModel) → IsTree tree
     → OfEach tree (λ d. (n : ℕ) → among (node_numbers d) n ≡ in_slice (number_of d) (node_size d) n)
 slices_have_their_numbers tree is id d found n =
     ap (λ (numbers : List ℕ). among numbers n) (subtrees_are_slices tree is id d found) ∙ among_run (number_of d) (node_size d) n
@@ -130,5 +130,5 @@ own_groups_follow (node id domain body) is =
     groups_follow body (suc id.0) (length (body_numbers body))
     (headed id.0 (body_numbers body) id.0 (length (node_numbers (node id domain body))) is).rest
 
-pub members_are_slices : (tree : Outline) → IsTree tree → OfEach tree (λ d. GroupsFollow (suc (number_of d)) (body_of d))
+pub members_are_slices : (tree : TreeModel) → IsTree tree → OfEach tree (λ d. GroupsFollow (suc (number_of d)) (body_of d))
 members_are_slices tree is id d found = own_groups_follow d (subtrees_are_slices tree is id d found)

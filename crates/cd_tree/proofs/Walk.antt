@@ -7,7 +7,7 @@ use Rattle.cd_tree.specs.declared.domain.Item.TheVariants.{Run, Group}
 use Rattle.cd_tree.specs.declared.domain.Domain.{Domain}
 use Rattle.cd_tree.specs.Domains.{Node, Body, Members, node, no_more, put_first, members_by, body_by, nodes_from, node_of, root_of, node_numbers, body_numbers, member_numbers, node_depth, body_depth, members_depth, numbers_from}
 use Rattle.cd_tree.specs.declared.kinds.KindName.{KindName}
-use Rattle.cd_tree.specs.Outlines.{FitsDomain, EachFits}
+use Rattle.cd_tree.specs.TreeModel.{FitsDomain, EachFits}
 use Rattle.cd_tree.specs.Parts.{AreFew, IsWalkable, WalkGives}
 use Rattle.cd_tree.proofs.View.{items_name_later, fits_at, nested_view_follows_where}
 use Rattle.cd_tree.proofs.EachDomain.{root_there}

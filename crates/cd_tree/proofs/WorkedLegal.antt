@@ -9,14 +9,14 @@ use Rattle.cd_tree.specs.declared.domain.How.{How}
 use Rattle.cd_tree.specs.declared.domain.How.TheVariants.{Regen}
 use Rattle.cd_tree.specs.declared.event.Kept.TheVariants as kept
 use Rattle.cd_tree.specs.declared.event.Event.TheVariants.{Begin, Saved, Fell, Reached}
-use Rattle.cd_tree.specs.Outlines.{Outline}
+use Rattle.cd_tree.specs.TreeModel.{TreeModel}
 use Rattle.cd_tree.specs.Legal.{MayFall, Legal, nothing, same, fell}
 use Rattle.cd_tree.specs.LegalLaws.{SavesAsDeclared, LegalFront, nothing_yet, same_so_far, fell_so_far, falling}
 
 abbrev y : Range
 y = record { region = 0; low = 0; high = 4 }
 
-abbrev preserved : How → Outline
+abbrev preserved : How → TreeModel
 preserved how = record {
   kinds = [];
   domains = record { name = []; parent = None; retry = 2; detects = 0; entries = record { range = y; how = how } ∷ []; items = [] } ∷ [];

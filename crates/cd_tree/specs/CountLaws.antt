@@ -2,7 +2,7 @@
 use Rattle.std.specs.Prelude.{◌≡◌, ℕ, ◌+◌, ◌*◌, ◌≤◌, Bool, true, false, cond, ◌==◌, ◌||◌, List, [], ◌∷◌, if◌then◌else◌}
 use Rattle.cd_tree.specs.KindSets.{no_kinds}
 use Rattle.cd_tree.specs.Domains.{Node, Body, Members, no_more, member, node_numbers, body_numbers, member_numbers}
-use Rattle.cd_tree.specs.Outlines.{Outline, IsTree}
+use Rattle.cd_tree.specs.TreeModel.{TreeModel, IsTree}
 use Rattle.cd_tree.specs.Reading.{Case, Counts, silence, Told, told, GroupEnd, AllDone, Try, with_member, read_node, read_points, read_members}
 use Rattle.cd_tree.specs.Laws.{OfEach}
 use Rattle.cd_tree.specs.Slices.{among}
@@ -84,4 +84,4 @@ MembersStayBelow =
 
 -- the numbers in each domain of a program are distinct
 abbrev pub NumbersAreDistinct : Type 0
-NumbersAreDistinct = (tree : Outline) → IsTree tree → OfEach tree (λ d. AreDistinct (node_numbers d))
+NumbersAreDistinct = (tree : TreeModel) → IsTree tree → OfEach tree (λ d. AreDistinct (node_numbers d))

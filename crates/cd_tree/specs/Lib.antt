@@ -2,7 +2,7 @@ pub mod Limits
 pub mod KindSets
 pub mod Operations
 pub mod Domains
-pub mod Outlines
+pub mod TreeModel
 pub mod Parts
 pub mod Meaning
 pub mod Locality

@@ -8,7 +8,7 @@ use Rattle.cd_tree.specs.declared.operation.Op.TheVariants.{Fill, Copy, Add, Sub
 use Rattle.cd_tree.specs.Operations.{op_reads, op_writes, op_meaning, column, length_of, nth_word, FitsShape}
 use Rattle.cd_tree.specs.Domains.{Node, Body, stop, run, group, domain_of, body_of, root_of, Throughout, ThroughoutBody}
 use Rattle.cd_tree.specs.Meaning.{in_entries, node_reads, node_writes, node_meaning, body_reads, body_writes, body_meaning, IsCovered, IsDisjoint, LieIn}
-use Rattle.cd_tree.specs.Outlines.{Outline, IsTree}
+use Rattle.cd_tree.specs.TreeModel.{TreeModel, IsTree}
 use Rattle.cd_tree.specs.Laws.{OfEach}
 
 -- words that agree in these places
@@ -83,14 +83,14 @@ BodyShapesFit body = ShapesFit body × ThroughoutBody OwnShapesFit body
 
 -- in a program all shapes are right
 abbrev pub ShapesFitInPrograms : Type 0
-ShapesFitInPrograms = (tree : Outline) → IsTree tree → OfEach tree AllShapesFit
+ShapesFitInPrograms = (tree : TreeModel) → IsTree tree → OfEach tree AllShapesFit
 
 -- what is covered or disjoint as a whole is so in each domain
 abbrev pub CoveredInPrograms : Type 0
-CoveredInPrograms = (tree : Outline) → IsTree tree → IsCovered (root_of tree.domains) → OfEach tree IsCovered
+CoveredInPrograms = (tree : TreeModel) → IsTree tree → IsCovered (root_of tree.domains) → OfEach tree IsCovered
 
 abbrev pub DisjointInPrograms : Type 0
-DisjointInPrograms = (tree : Outline) → IsTree tree → IsDisjoint (root_of tree.domains) → OfEach tree IsDisjoint
+DisjointInPrograms = (tree : TreeModel) → IsTree tree → IsDisjoint (root_of tree.domains) → OfEach tree IsDisjoint
 
 -- what a domain writes comes from what it reads alone
 abbrev pub MeaningIsLocal : Type 0

@@ -4,7 +4,7 @@ ghost use Rattle.std.specs.Prelude.{◌≡◌, ◌≢◌, ◌↔◌, ◌<◌, �
 ghost use Rattle.cd_tree.specs.Domains.{root_of, node_of, members_by, body_by, node_numbers, body_numbers, member_numbers, node_depth, body_depth, members_depth, numbers_from};
 ghost use Rattle.cd_tree.specs.Limits.{kinds_limit, entries_limit, members_limit, depth_limit};
 ghost use Rattle.cd_tree.specs.Operations.{IsFull};
-ghost use Rattle.cd_tree.specs.Outlines.{IsTree, FitsDomain, EachFits, FitsItems, NamesChildren, SiblingsDiffer, KindsDiffer};
+ghost use Rattle.cd_tree.specs.TreeModel.{IsTree, FitsDomain, EachFits, FitsItems, NamesChildren, SiblingsDiffer, KindsDiffer};
 ghost use Rattle.cd_tree.specs.Parts.{AreFew, IsWalkable, WalkGives};
 
 use crate::limits::{

@@ -16,9 +16,9 @@ pub struct Tree {
 }
 
 impl Model for Tree {
-    ghost use Rattle.cd_tree.specs.Outlines.{Outline, IsTree};
+    ghost use Rattle.cd_tree.specs.TreeModel.{TreeModel, IsTree};
 
-    ghost Value = { Outline };
+    ghost Value = { TreeModel };
 
     ghost view = { λ tree. record { kinds = tree.kinds; domains = tree.domains } };
 
@@ -26,7 +26,7 @@ impl Model for Tree {
 }
 
 impl Tree {
-    ghost use Rattle.cd_tree.specs.Outlines.{IsTree};
+    ghost use Rattle.cd_tree.specs.TreeModel.{IsTree};
 
     /// The tree of a list of domains. It takes no memory.
     pub fn of(kinds: Items<KindName>, domains: Items<Domain>) -> Tree

@@ -6,6 +6,6 @@ abbrev pub invariant-loop-index : goal.invariant-loop-index
 invariant-loop-index g l = record {
   within : l.index ≤ l.range.high;
   size : length l.words.items + (l.range.high - l.index) ≡ l.range.high - l.range.low;
-  whole : l.words.items ++ words_from (g.F.Field.state l.field).words l.range.region l.index (l.range.high - l.index)
-      ≡ words_of (g.F.Field.state l.field).words l.range;
+  whole : l.words.items ++ words_from (g.F.Field.model l.field).words l.range.region l.index (l.range.high - l.index)
+      ≡ words_of (g.F.Field.model l.field).words l.range;
 }

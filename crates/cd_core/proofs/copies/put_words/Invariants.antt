@@ -8,7 +8,7 @@ abbrev pub invariant-loop-index : goal.invariant-loop-index
 invariant-loop-index g l = record {
   above : l.range.low ≤ l.index;
   within : l.index ≤ l.range.high;
-  known : (p : Place) → in_range l.range p ≡ true → IsSome ((g.F.Field.state l.field).words p);
-  left : put_back (g.F.Field.state l.field) l.range.region l.index (drop (l.index - l.range.low) l.words)
-      ≡ put_back (g.F.Field.state l.fn.field) l.range.region l.range.low l.words;
+  known : (p : Place) → in_range l.range p ≡ true → IsSome ((g.F.Field.model l.field).words p);
+  left : put_back (g.F.Field.model l.field) l.range.region l.index (drop (l.index - l.range.low) l.words)
+      ≡ put_back (g.F.Field.model l.fn.field) l.range.region l.range.low l.words;
 }

@@ -2,7 +2,7 @@ use Rattle.std.proofs.Common.{arith, ◌≡◌, ◌+◌, ◌<◌, ◌∷◌, ℕ
 use Rattle.std.proofs.lemmas.List.{drop_more}
 use Rattle.cd_tree.specs.declared.domain.Entry.{Entry}
 use Rattle.cd_tree.specs.declared.event.Event.TheVariants.{Refilled}
-use Rattle.cd_field.specs.Machine.{Machine, told}
+use Rattle.cd_field.specs.FieldModel.{FieldModel, told}
 use Rattle.cd_core.specs.Copies.{put_back}
 use Rattle.cd_core.proofs.Copying.{blank, nth_entry, in_entry, enough_copies, put_back-known, entry_restored, copies_left}
 use Rattle.cd_core.proofs.copies.restore_all.Goals as goal
@@ -29,19 +29,19 @@ loop-number-preserved g c =
     let copies : drop c.loop-number.number c.args.copies.now ≡ c.index-copies-number.result ∷ drop (c.loop-number.number + 1) c.args.copies.now =
     drop_more c.args.copies.now c.loop-number.number c.index-copies-number.result some
     ∙ ap (λ (ws : List ℕ). ws ∷ drop (c.loop-number.number + 1) c.args.copies.now) (sym c.index-copies-number.is) in
-    let put : g.F.Field.state c.put_words.new.field ≡ put_back (g.F.Field.state c.loop-number.field) entry.range.region entry.range.low c.index-copies-number.result =
-    c.put_words.ensures ∙ ap (λ (ws : List ℕ). put_back (g.F.Field.state c.loop-number.field) entry.range.region entry.range.low ws) c.items.ensures.value in
-    let later : g.F.Field.state c.refilled.new.self ≡ told (g.F.Field.state c.put_words.new.field) (Refilled (g.F.Field.state c.put_words.new.field).node c.loop-number.number) =
+    let put : g.F.Field.model c.put_words.new.field ≡ put_back (g.F.Field.model c.loop-number.field) entry.range.region entry.range.low c.index-copies-number.result =
+    c.put_words.ensures ∙ ap (λ (ws : List ℕ). put_back (g.F.Field.model c.loop-number.field) entry.range.region entry.range.low ws) c.items.ensures.value in
+    let later : g.F.Field.model c.refilled.new.self ≡ told (g.F.Field.model c.put_words.new.field) (Refilled (g.F.Field.model c.put_words.new.field).node c.loop-number.number) =
     c.in_ok-refilled.ensures in
     record {
       within = omega arith;
       copies = c.loop-number.invariant.copies;
       fits = (copies_left c.loop-number.number c.args.entries.now c.args.copies.now entry c.index-copies-number.result entries copies c.loop-number.invariant.fits).1;
       known = λ p h.
-          let Q : Machine → Type 0 = λ m. IsSome (m.words p) in
+          let Q : FieldModel → Type 0 = λ m. IsSome (m.words p) in
           subst Q (sym later) (subst Q (sym put)
-          (put_back-known (g.F.Field.state c.loop-number.field) entry.range.region entry.range.low c.index-copies-number.result p
+          (put_back-known (g.F.Field.model c.loop-number.field) entry.range.region entry.range.low c.index-copies-number.result p
           (c.loop-number.invariant.known p h)));
-      left = entry_restored (g.F.Field.state c.loop-number.field) (g.F.Field.state c.put_words.new.field) (g.F.Field.state c.refilled.new.self) _
+      left = entry_restored (g.F.Field.model c.loop-number.field) (g.F.Field.model c.put_words.new.field) (g.F.Field.model c.refilled.new.self) _
           c.loop-number.number c.args.entries.now c.args.copies.now entry c.index-copies-number.result entries copies put later c.loop-number.invariant.left;
     }

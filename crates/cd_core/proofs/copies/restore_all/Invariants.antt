@@ -9,7 +9,7 @@ invariant-loop-number g l = record {
   within : l.number ≤ length l.entries;
   copies : length l.entries ≤ length l.copies;
   fits : AreCopies (drop l.number l.entries) (drop l.number l.copies);
-  known : (p : Place) → in_entries l.entries p ≡ true → IsSome ((g.F.Field.state l.field).words p);
-  left : restored_from (g.F.Field.state l.field) l.number (drop l.number l.entries) (drop l.number l.copies)
-      ≡ restored_from (g.F.Field.state l.fn.field) 0 l.entries l.copies;
+  known : (p : Place) → in_entries l.entries p ≡ true → IsSome ((g.F.Field.model l.field).words p);
+  left : restored_from (g.F.Field.model l.field) l.number (drop l.number l.entries) (drop l.number l.copies)
+      ≡ restored_from (g.F.Field.model l.fn.field) 0 l.entries l.copies;
 }

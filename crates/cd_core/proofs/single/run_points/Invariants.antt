@@ -5,8 +5,8 @@ use Rattle.cd_core.proofs.single.run_points.Given as goal
 abbrev pub invariant-loop-point : goal.invariant-loop-point
 invariant-loop-point g l = record {
   within : l.point ≤ length l.items;
-  runs : CanRun l.domain.entries (g.F.Field.state l.field);
+  runs : CanRun l.domain.entries (g.F.Field.model l.field);
   stays : StaysWithin l.domain.entries (drop l.point l.items);
-  left : run_from (g.F.Field.state l.field) l.point (drop l.point l.items)
-      ≡ run_from (g.F.Field.state l.fn.field) 0 l.domain.items;
+  left : run_from (g.F.Field.model l.field) l.point (drop l.point l.items)
+      ≡ run_from (g.F.Field.model l.fn.field) 0 l.domain.items;
 }

@@ -2,7 +2,7 @@ use Rattle.std.proofs.Common.{rules, ◌≡◌, ◌<◌, ◌^◌, ◌+◌, ◌-�
 use Rattle.std.proofs.lemmas.Option.{slice_get_within}
 use Rattle.cd_tree.specs.Domains.{body_by, members_by, node_of}
 use Rattle.cd_tree.specs.KindSets.{no_kinds}
-use Rattle.cd_tree.specs.Outlines.{FitsItems, NamesChildren}
+use Rattle.cd_tree.specs.TreeModel.{FitsItems, NamesChildren}
 use Rattle.cd_tree.specs.Reading.{read_node, read_try, read_points, read_members}
 use Rattle.cd_tree.specs.Record.{case_of}
 use Rattle.cd_reading.specs.Ends.{try_end, node_end, group_end}

@@ -7,7 +7,7 @@ use Rattle.cd_report.proofs.record.write_record.Goals as goal
 
 pub returns-in_err-write_all : goal.returns-in_err-write_all
 returns-in_err-write_all g c =
-    first_stops (g.K.Sink.model c.args.sink.now) (g.K.Sink.model c.write_all.new.sink) (line (codes "record")) (events_text c.args.kinds.now c.args.regions.now (g.F.Field.state c.args.machine.now).events)
+    first_stops (g.K.Sink.model c.args.sink.now) (g.K.Sink.model c.write_all.new.sink) (line (codes "record")) (events_text c.args.kinds.now c.args.regions.now (g.F.Field.model c.args.machine.now).events)
     c.in_err-write_all.field-0.0 c.from_residual.result (err_is c.from_residual.result c.in_err-write_all.field-0.0 c.from_residual.ensures)
     (subst (λ (head : List ℕ). WriteAll {T = Unit {0}} (g.K.Sink.model c.args.sink.now) (g.K.Sink.model c.write_all.new.sink) head (Err c.in_err-write_all.field-0.0))
     c.as_bytes.ensures.value c.in_err-write_all.ensures)
@@ -15,7 +15,7 @@ returns-in_err-write_all g c =
 pub returns : goal.returns
 returns g c =
     wrote_rest (g.K.Sink.model c.args.sink.now) (g.K.Sink.model c.write_all.new.sink) (g.K.Sink.model c.write_events.new.sink)
-    (events_text c.args.kinds.now c.args.regions.now (g.F.Field.state c.args.machine.now).events) (record_text c.args.kinds.now c.args.regions.now (g.F.Field.state c.args.machine.now).events) c.write_events.result
-    (wrote_first (g.K.Sink.model c.args.sink.now) (g.K.Sink.model c.write_all.new.sink) (line (codes "record")) (events_text c.args.kinds.now c.args.regions.now (g.F.Field.state c.args.machine.now).events)
+    (events_text c.args.kinds.now c.args.regions.now (g.F.Field.model c.args.machine.now).events) (record_text c.args.kinds.now c.args.regions.now (g.F.Field.model c.args.machine.now).events) c.write_events.result
+    (wrote_first (g.K.Sink.model c.args.sink.now) (g.K.Sink.model c.write_all.new.sink) (line (codes "record")) (events_text c.args.kinds.now c.args.regions.now (g.F.Field.model c.args.machine.now).events)
     (subst (Grew (g.K.Sink.model c.args.sink.now) (g.K.Sink.model c.write_all.new.sink)) c.as_bytes.ensures.value c.in_ok-write_all.ensures))
     c.write_events.ensures

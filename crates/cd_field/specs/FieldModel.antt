@@ -16,7 +16,7 @@ use Rattle.cd_tree.specs.Scripts.{struck, kinds_of, words_struck}
 
 -- the words, the places whose word is away (carved out and not put back), the record, the notes of the try in hand, the
 -- script, the domain and the begin number in hand, and the ranges that this machine was carved to write
-pub record Machine : Type 0 where
+pub record FieldModel : Type 0 where
   pub words : Words
   pub lost : PlaceSet
   pub events : List Event
@@ -30,20 +30,20 @@ abbrev pub nowhere : PlaceSet
 nowhere = λ p. false
 
 -- a place has a word, and it is not away
-pub record IsPresent (m : Machine) (p : Place) : Type 0 where
+pub record IsPresent (m : FieldModel) (p : Place) : Type 0 where
   pub known : IsSome (m.words p)
   pub here : m.lost p ≡ false
 
 -- each place of these ranges is present
-abbrev pub ArePresent : Machine → List Range → Type 0
+abbrev pub ArePresent : FieldModel → List Range → Type 0
 ArePresent m ranges = (p : Place) → in_ranges ranges p ≡ true → IsPresent m p
 
 -- the faults that strike when the machine comes to this point
-abbrev pub hits_at : Machine → ℕ → List Fault
+abbrev pub hits_at : FieldModel → ℕ → List Fault
 hits_at m point = struck m.script m.node m.begin point
 
 -- a machine that has just been loaded
-abbrev pub loaded : List Region → List Fault → Machine
+abbrev pub loaded : List Region → List Fault → FieldModel
 loaded regions script = record {
   words = initial regions;
   lost = nowhere;
@@ -56,11 +56,11 @@ loaded regions script = record {
 }
 
 -- one event more
-abbrev pub told : Machine → Event → Machine
+abbrev pub told : FieldModel → Event → FieldModel
 told m event = record m { events = m.events ++ event ∷ [] }
 
 -- a domain's begin empties the notes
-abbrev pub begun : Machine → NodeId → ℕ → Machine
+abbrev pub begun : FieldModel → NodeId → ℕ → FieldModel
 begun m id number = record m {
   events = m.events ++ Begin id number ∷ [];
   notes = no_kinds;
@@ -69,11 +69,11 @@ begun m id number = record m {
 }
 
 -- one word changed
-abbrev pub wrote : Machine → Place → ℕ → Machine
+abbrev pub wrote : FieldModel → Place → ℕ → FieldModel
 wrote m p word = record m { words = put m.words p word }
 
 -- one word put back, which is present then
-abbrev pub refilled_word : Machine → Place → ℕ → Machine
+abbrev pub refilled_word : FieldModel → Place → ℕ → FieldModel
 refilled_word m p word = record m {
   words = put m.words p word;
   lost = λ q. if same_place p q then false else m.lost q;
@@ -88,18 +88,18 @@ abbrev pub laid : Words → Range → List ℕ → Words
 laid w r words = λ q. if in_range r q then Some (slice_index words (q.index - r.low)) else w q
 
 -- the words of a range changed
-abbrev pub wrote_run : Machine → Range → List ℕ → Machine
+abbrev pub wrote_run : FieldModel → Range → List ℕ → FieldModel
 wrote_run m r words = record m { words = laid m.words r words }
 
 -- the words of a range put back, which are present then
-abbrev pub refilled_run : Machine → Range → List ℕ → Machine
+abbrev pub refilled_run : FieldModel → Range → List ℕ → FieldModel
 refilled_run m r words = record m {
   words = laid m.words r words;
   lost = λ q. if in_range r q then false else m.lost q;
 }
 
 -- a point reached: its faults strike in script order and their kinds join the notes
-abbrev pub reached_point : Machine → ℕ → Machine
+abbrev pub reached_point : FieldModel → ℕ → FieldModel
 reached_point m point = record m {
   words = words_struck (hits_at m point) m.words;
   events = m.events ++ Reached m.node point ∷ [];
@@ -107,11 +107,11 @@ reached_point m point = record m {
 }
 
 -- an escalation empties the notes
-abbrev pub gone_up : Machine → Machine
+abbrev pub gone_up : FieldModel → FieldModel
 gone_up m = record m { events = m.events ++ Escalate m.node ∷ []; notes = no_kinds }
 
 -- the part that is carved out of a machine: it has words at these places alone
-abbrev pub part_of : Machine → List Range → List Range → Machine
+abbrev pub part_of : FieldModel → List Range → List Range → FieldModel
 part_of m reads writes = record {
   words = λ q. if in_ranges reads q || in_ranges writes q then m.words q else None;
   lost = nowhere;
@@ -124,11 +124,11 @@ part_of m reads writes = record {
 }
 
 -- what is left: the places that the part writes are away
-abbrev pub without : Machine → List Range → Machine
+abbrev pub without : FieldModel → List Range → FieldModel
 without m writes = record m { lost = λ q. in_ranges writes q || m.lost q }
 
 -- a part taken back: with commit its carved writes are here again with its words, and its notes join these
-abbrev pub absorbed : Machine → Machine → Bool → Machine
+abbrev pub absorbed : FieldModel → FieldModel → Bool → FieldModel
 absorbed m part true = record m {
   words = written (in_ranges part.carved) part.words m.words;
   lost = λ q. if in_ranges part.carved q then false else m.lost q;
@@ -138,7 +138,7 @@ absorbed m part true = record m {
 absorbed m part false = record m { events = m.events ++ part.events }
 
 -- when a part may be taken back
-pub record CanAbsorb (m part : Machine) (commit : Bool) : Type 0 where
+pub record CanAbsorb (m part : FieldModel) (commit : Bool) : Type 0 where
   pub script : part.script ≡ m.script
   pub away : (p : Place) → in_ranges part.carved p ≡ true → m.lost p ≡ true
   pub present : commit ≡ true → ArePresent part part.carved

@@ -11,12 +11,12 @@ use Rattle.cd_tree.specs.Operations.{op_reads, op_writes, IsFull, FitsShape}
 use Rattle.cd_tree.specs.Domains.{root_of, node_numbers, node_depth, numbers_from}
 
 -- a program as contracts see it
-pub record Outline : Type 0 where
+pub record TreeModel : Type 0 where
   pub kinds : List KindName
   pub domains : List Domain
 
 -- the same program with other names of kinds
-abbrev pub with_kinds : Outline → List KindName → Outline
+abbrev pub with_kinds : TreeModel → List KindName → TreeModel
 with_kinds tree kinds = record tree { kinds = kinds }
 
 -- each member of a group of domain `at` is a later domain, and has it as its parent
@@ -60,7 +60,7 @@ KindsDiffer kinds =
     → one.name ≡ other.name → i ≡ j
 
 -- a program: not empty, the root first and without a parent, walked in preorder by the numbers 0, 1, .. once each
-pub record IsTree (tree : Outline) : Type 0 where
+pub record IsTree (tree : TreeModel) : Type 0 where
   pub some : 0 < length tree.domains
   pub root : IsSomeAnd (slice_get tree.domains 0) (λ domain. domain.parent ≡ None)
   pub preorder : node_numbers (root_of tree.domains) ≡ numbers_from 0 (length tree.domains)
