@@ -190,11 +190,7 @@ fn add_entry(draft: &mut Draft, range: Range, how: How) -> Result<(), Stop>
 
 // kind BASE, kind BASE halt
 #[tactic(auto, unfolding(crate::specs::Heads::kind_in))]
-pub(crate) fn kind_statement(
-    alloc: Global,
-    draft: &mut Draft,
-    words: &[Bytes],
-) -> Result<(), Stop>
+pub(crate) fn kind_statement(alloc: Global, draft: &mut Draft, words: &[Bytes]) -> Result<(), Stop>
     ensures { Steps draft.new result (kind_in draft.old words.now) }
 {
     match words {

@@ -23,12 +23,7 @@ struct Header<'a> {
 
 // A statement, at its line.
 #[tactic(auto, unfolding(crate::specs::Reading::taken))]
-fn take(
-    alloc: Global,
-    line: &Line,
-    variables: &[Variable],
-    draft: &mut Draft,
-) -> Result<(), Refuse>
+fn take(alloc: Global, line: &Line, variables: &[Variable], draft: &mut Draft) -> Result<(), Refuse>
     ensures { Reads draft.new result (taken variables.now line.now draft.old) }
 {
     if let Err(refuse) = draft.count() {
