@@ -25,7 +25,7 @@ fn name_fits(name: &[u8]) -> Result<(), Wrong>
     ensures { result ≡ name_fits name.now }
 {
     guard(
-        name.len() <= limits::MOST_NAME,
+        name.len() <= limits::MOST_NAME as usize,
         Wrong::Limit(Which::Name, name.len() as u64),
     )
 }
@@ -255,7 +255,10 @@ fn words_fit(words: u64, size: u64) -> Result<(), Wrong>
 {
     let sum = u128::from(words) + u128::from(size);
     let told = sum.min(18_446_744_073_709_551_615) as u64;
-    guard(sum <= limits::MOST_WORDS, Wrong::Limit(Which::Words, told))
+    guard(
+        sum <= u128::from(limits::MOST_WORDS),
+        Wrong::Limit(Which::Words, told),
+    )
 }
 
 // region NAME E PATTERN
@@ -577,11 +580,7 @@ fn add_domain(
     let taken = has_child_named(draft.domains.as_slice(), parent, word);
     let free = guard(!taken, Wrong::Taken);
     let count = room(Which::Domains, limits::MOST_DOMAINS, draft.domains.len());
-    let depth = room(
-        Which::Depth,
-        limits::MOST_DEPTH as usize,
-        draft.levels.len(),
-    );
+    let depth = room(Which::Depth, limits::MOST_DEPTH, draft.levels.len());
     let place = draft.room_for_domain();
     all_hold(&[
         free,

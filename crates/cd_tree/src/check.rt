@@ -30,10 +30,10 @@ fn are_few(kinds: &[KindName], domains: &[Domain]) -> bool
     ensures { IsTrue result ↔ AreFew kinds.now domains.now }
 {
     !domains.is_empty()
-        && domains.len() <= MOST_DOMAINS
-        && kinds.len() <= MOST_KINDS
-        && items_within(domains, MOST_ITEMS)
-        && entries_within(domains, MOST_PRESERVES)
+        && domains.len() <= MOST_DOMAINS as usize
+        && kinds.len() <= MOST_KINDS as usize
+        && items_within(domains, MOST_ITEMS as usize)
+        && entries_within(domains, MOST_PRESERVES as usize)
 }
 
 // Whether the domains have at most so many items together.
@@ -166,7 +166,7 @@ fn is_name(name: &[u8]) -> bool
 fn entries_fit(entries: &[Entry]) -> bool
     ensures { IsTrue result ↔ (length entries.now ≤ entries_limit) × All (λ (entry : Entry). IsFull entry.range) entries.now }
 {
-    entries.len() <= MOST_ENTRIES
+    entries.len() <= MOST_ENTRIES as usize
         && entries
             .iter()
             .all(|entry| entry.range.low < entry.range.high)
@@ -198,7 +198,7 @@ fn item_fits(domains: &[Domain], at: u32, item: &Item) -> bool
 fn group_fits(domains: &[Domain], at: u32, ids: &[NodeId]) -> bool
     ensures { IsTrue result ↔ (0 < length ids.now) × (length ids.now ≤ members_limit) × NamesChildren domains.now at ids.now }
 {
-    !ids.is_empty() && ids.len() <= MOST_MEMBERS && are_children(domains, at, ids)
+    !ids.is_empty() && ids.len() <= MOST_MEMBERS as usize && are_children(domains, at, ids)
 }
 
 // Whether these are later domains with this parent.
