@@ -1,6 +1,7 @@
 #!/usr/bin/env bash
-# What each operation costs on the shipped machine, beside a plain loop over slices of u64: for each of the twelve, the
-# nanoseconds of processor time for a word by `apply` and by the loop, and their ratio. An operation goes over 330,000 words
+# What each operation costs on the shipped machine, and on a part carved out of it whose regions do not stand in order, beside
+# a plain loop over slices of u64: for each of the twelve, the nanoseconds of processor time for a word by `apply` on both and
+# by the loop, and the ratios. An operation goes over 330,000 words
 # of its destination, or of its source where it gives one word; a sparse product over 330,000 positions in rows of four. The
 # time is that of many turns less that of few, the least of some runs each. Run by hand; the program is built first.
 set -eu
@@ -36,12 +37,18 @@ cost() {
     echo $(((all - start) * 1000000000 / (words * (many - few))))
 }
 
-printf '%-8s %8s %8s %6s\n' operation apply loop ratio
+printf '%-8s %8s %8s %8s %6s %6s\n' operation machine part loop ratio ratio
 for operation in fill copy add sub mul axpy scan sum dot max stencil spmv; do
-    if [ "$("$program" field "$operation" 3)" != "$("$program" slice "$operation" 3)" ]; then
-        echo "$operation: the two ways do not give the same words" >&2
-        exit 1
-    fi
-    awk -v name="$operation" -v field="$(cost field "$operation")" -v slice="$(cost slice "$operation")" \
-        'BEGIN { printf "%-8s %8.2f %8.2f %6.1f\n", name, field / 1000, slice / 1000, (slice > 0) ? field / slice : 0 }'
+    for way in field part; do
+        if [ "$("$program" "$way" "$operation" 3)" != "$("$program" slice "$operation" 3)" ]; then
+            echo "$operation: the ways do not give the same words" >&2
+            exit 1
+        fi
+    done
+    awk -v name="$operation" -v field="$(cost field "$operation")" -v part="$(cost part "$operation")" \
+        -v slice="$(cost slice "$operation")" \
+        'BEGIN {
+            if (slice < 1) slice = 1
+            printf "%-8s %8.2f %8.2f %8.2f %6.1f %6.1f\n", name, field / 1000, part / 1000, slice / 1000, field / slice, part / slice
+        }'
 done

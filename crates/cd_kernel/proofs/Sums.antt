@@ -4,6 +4,7 @@ use Rattle.std.proofs.Math.Nat.{add-mod-mod, mod-add-mod}
 use Rattle.std.proofs.lemmas.Bool.{cases_lt}
 use Rattle.cd_base.specs.Words.{word_of}
 use Rattle.cd_tree.specs.Operations.{total, greatest}
+use Rattle.cd_tree.proofs.SameColumns.{total-same, greatest-same}
 
 -- terms that are nothing add nothing
 pub total-flat : (f : ℕ → ℕ) (a b : ℕ) → a ≤ b → ((j : ℕ) → a ≤ j → j < b → f j ≡ 0) → total f b ≡ total f a
@@ -29,9 +30,52 @@ sum_more f n sum term later before is after =
     ∙ add-mod-mod (total f n) (f n) (2 ^ 64)
     ∙ sym (ap (λ (k : ℕ). word_of (total f k)) (add-one n))
 
--- one word more is compared
-pub greatest_more : (f : ℕ → ℕ) (n most word later : ℕ) → most ≡ greatest f n → word ≡ f n
-    → later ≡ max most word → later ≡ greatest f (n + 1)
-greatest_more f n most word later before is after =
-    let step : max most word ≡ max (greatest f n) (f n) = cc in
-    after ∙ step ∙ sym (ap (greatest f) (add-one n))
+-- a sum in two parts
+total_parted : (f g : ℕ → ℕ) (a n : ℕ) → ((j : ℕ) → j < n → g j ≡ f (a + j)) → total f (a + n) ≡ total f a + total g n
+total_parted f g a zero same =
+    let e : a + zero ≡ a = omega arith in
+    ap (total f) e ∙ (let none : total f a ≡ total f a + 0 = omega arith in none)
+total_parted f g a (suc n) same =
+    let last : g n ≡ f (a + n) = same n (omega arith) in
+    let front : total f (a + n) ≡ total f a + total g n = total_parted f g a n (λ j h. same j (omega arith)) in
+    let e : a + suc n ≡ suc (a + n) = omega arith in
+    ap (total f) e ∙ (let all : total f (a + n) + f (a + n) ≡ total f a + (total g n + g n) = omega arith in all)
+
+-- a block of terms more joins a running sum
+pub block_summed : (f g : ℕ → ℕ) (a n m sum later : ℕ) → sum ≡ word_of (total f a) → ((j : ℕ) → j < n → g j ≡ f (a + j))
+    → later ≡ word_of (sum + total g m) → m ≡ n → later ≡ word_of (total f (a + n))
+block_summed f g a n m sum later before same after long =
+    after
+    ∙ ap (λ (k : ℕ). word_of (sum + total g k)) long
+    ∙ ap (λ (v : ℕ). word_of (v + total g n)) before
+    ∙ mod-add-mod (total f a) (2 ^ 64) (total g n)
+    ∙ sym (ap word_of (total_parted f g a n same))
+
+-- the greatest of two parts
+greatest_parted : (f g : ℕ → ℕ) (a n : ℕ) → ((j : ℕ) → j < n → g j ≡ f (a + j)) → greatest f (a + n) ≡ max (greatest f a) (greatest g n)
+greatest_parted f g a zero same =
+    let e : a + zero ≡ a = omega arith in
+    ap (greatest f) e ∙ (let none : greatest f a ≡ max (greatest f a) 0 = omega arith in none)
+greatest_parted f g a (suc n) same =
+    let last : g n ≡ f (a + n) = same n (omega arith) in
+    let front : greatest f (a + n) ≡ max (greatest f a) (greatest g n) = greatest_parted f g a n (λ j h. same j (omega arith)) in
+    let e : a + suc n ≡ suc (a + n) = omega arith in
+    ap (greatest f) e
+    ∙ (let all : max (greatest f (a + n)) (f (a + n)) ≡ max (greatest f a) (max (greatest g n) (g n)) = omega arith in all)
+
+-- a block of words more is compared
+pub block_compared : (f g : ℕ → ℕ) (a n m most later : ℕ) → most ≡ greatest f a → ((j : ℕ) → j < n → g j ≡ f (a + j))
+    → later ≡ max most (greatest g m) → m ≡ n → later ≡ greatest f (a + n)
+block_compared f g a n m most later before same after long =
+    after ∙ ap (λ (k : ℕ). max most (greatest g k)) long ∙ ap (λ (v : ℕ). max v (greatest g n)) before ∙ sym (greatest_parted f g a n same)
+
+-- a sum of words that were read
+pub sum_read : (sum later n m : ℕ) (f g : ℕ → ℕ) → ((j : ℕ) → j < n → f j ≡ g j) → later ≡ word_of (sum + total f n) → n ≡ m
+    → later ≡ word_of (sum + total g m)
+sum_read sum later n m f g same is long =
+    is ∙ ap (λ (v : ℕ). word_of (sum + v)) (total-same f g n same ∙ ap (total g) long)
+
+pub greatest_read : (most later n m : ℕ) (f g : ℕ → ℕ) → ((j : ℕ) → j < n → f j ≡ g j) → later ≡ max most (greatest f n) → n ≡ m
+    → later ≡ max most (greatest g m)
+greatest_read most later n m f g same is long =
+    is ∙ ap (λ (v : ℕ). max most v) (greatest-same f g n same ∙ ap (greatest g) long)

@@ -1,5 +1,8 @@
--- One turn of an operation that writes its destination word by word.
-use Rattle.std.proofs.Common.{◌≡◌, ℕ, ◌+◌, ◌-◌, ◌<◌, List, [], ◌∷◌, All, Option, Some, IsSome, refl, ap, subst, sym, ◌∙◌, add-one}
+-- One turn of an operation that writes its destination a block at a time.
+use Rattle.std.proofs.Common.{◌≡◌, ℕ, ◌+◌, ◌-◌, ◌<◌, ◌≤◌, suc, Bool, true, cond, List, [], ◌∷◌, All, get_or, length, take, Option, Some, IsSome, refl, ap, subst, sym, ◌∙◌, arith, inl, inr}
+use Rattle.std.proofs.Math.Path.{fun_ext}
+use Rattle.std.proofs.lemmas.List.{length-take, get_or-take}
+use Rattle.std.proofs.lemmas.Bool.{cases_lt}
 use Rattle.std.proofs.lemmas.List.Elements.{All-nil, All-cons}
 use Rattle.cd_base.specs.declared.place.Place.{Place}
 use Rattle.cd_base.specs.declared.place.Range.{Range}
@@ -8,10 +11,11 @@ use Rattle.cd_tree.specs.declared.operation.Op.{Op}
 use Rattle.cd_tree.specs.declared.operation.Op.TheVariants.{Fill, Scan}
 use Rattle.cd_tree.specs.Operations.{column, op_writes, length_of, nth_word, total, FitsShape, IsInStep}
 use Rattle.cd_tree.specs.Locality.{ColumnIsLocal}
-use Rattle.cd_field.specs.FieldModel.{FieldModel, IsPresent, ArePresent, wrote}
-use Rattle.cd_kernel.specs.Computing.{nth_place, IsHere, IsDirect}
-use Rattle.cd_kernel.proofs.Places.{by_test, or_left, or_right}
-use Rattle.cd_kernel.proofs.Written.{words_to, first_of, next_written, chosen, other}
+use Rattle.cd_field.specs.FieldModel.{FieldModel, IsPresent, ArePresent, laid, wrote_run}
+use Rattle.cd_kernel.specs.Computing.{run_of, IsHere, IsDirect}
+use Rattle.cd_kernel.proofs.Places.{Inside, inside_from, inside_to, by_test, same_test, or_left, or_right}
+use Rattle.cd_kernel.proofs.Sums.{block_summed}
+use Rattle.cd_kernel.proofs.Written.{words_to, first_of, chosen, other}
 use Rattle.cd_kernel.proofs.Steady.{step_there, column_stays}
 
 -- writing keeps places present
@@ -40,48 +44,100 @@ pub still_here : (m was : FieldModel) (op : Op) (n : ℕ) (ranges : List Range)
     → m ≡ record was { words = words_to op was.words n } → ArePresent was ranges → All (IsHere m) ranges
 still_here m was op n ranges e present = here_from m ranges (λ p h. still_present m was op n p e (present p h))
 
--- one word more is written
-word_written : (m was later : FieldModel) (op : Op) (n word : ℕ)
-    → m ≡ record was { words = words_to op was.words n } → word ≡ column op was.words n
-    → later ≡ wrote m (nth_place (op_writes op) n) word
-    → later ≡ record was { words = words_to op was.words (n + 1) }
-word_written m was later op n word e value wrote_it =
-    wrote_it
-    ∙ ap (λ (v : FieldModel). wrote v (nth_place (op_writes op) n) word) e
-    ∙ ap (λ (v : ℕ). wrote (record was { words = words_to op was.words n }) (nth_place (op_writes op) n) v) value
-    ∙ ap (λ (w : Words). record was { words = w }) (next_written op was.words n)
+-- where a block is written behind the first words, so many more are
+laid_on : (op : Op) (w : Words) (at n : ℕ) (words : List ℕ) → ((j : ℕ) → j < n → get_or words j 0 ≡ column op w (at + j)) → (q : Place)
+    → laid (words_to op w at) (run_of (op_writes op) at n) words q ≡ words_to op w (at + n) q
+laid_on op w at n words each q =
+    let d : Range = op_writes op in
+    let run : Range = run_of d at n in
+    by_test (in_range run q)
+    (λ t. let h : Inside run q = inside_from run q t in
+    let low : d.low + at ≤ q.index = h.low in
+    let high : q.index < d.low + at + n = h.high in
+    let inside : in_range (first_of d (at + n)) q ≡ true =
+    inside_to (first_of d (at + n)) q (record { region = h.region; low = omega arith; high = omega arith }) in
+    let index : at + (q.index - (d.low + at)) ≡ q.index - d.low = omega arith in
+    chosen (in_range run q) (Some (get_or words (q.index - run.low) 0)) (words_to op w at q) t
+    ∙ ap (λ (v : ℕ). Some v) (each (q.index - (d.low + at)) (omega arith))
+    ∙ ap (λ (i : ℕ). Some (column op w i)) index
+    ∙ sym (chosen (in_range (first_of d (at + n)) q) (Some (column op w (q.index - d.low))) (w q) inside))
+    (λ f. let tests : in_range (first_of d at) q ≡ in_range (first_of d (at + n)) q =
+    same_test _ _
+    (λ t. let h : Inside (first_of d at) q = inside_from (first_of d at) q t in
+    let high : q.index < d.low + at = h.high in
+    inside_to (first_of d (at + n)) q (record { region = h.region; low = h.low; high = omega arith }))
+    (λ t. let h : Inside (first_of d (at + n)) q = inside_from (first_of d (at + n)) q t in
+    let high : q.index < d.low + (at + n) = h.high in
+    let low : d.low ≤ q.index = h.low in
+    elim (cases_lt q.index (d.low + at)) [
+      | inl l ↦ inside_to (first_of d at) q (record { region = h.region; low = low; high = l })
+      | inr l ↦
+          let in_run : in_range run q ≡ true = inside_to run q (record { region = h.region; low = l; high = omega arith }) in
+          absurd (cc)
+    ]) in
+    other (in_range run q) (Some (get_or words (q.index - run.low) 0)) (words_to op w at q) f
+    ∙ ap (λ (b : Bool). cond b (Some (column op w (q.index - d.low))) (w q)) tests)
 
--- one turn of an operation whose words come from words that are still to be written
-pub column_written : ColumnIsLocal → (m was later : FieldModel) (op : Op) (d : Range) (n word : ℕ)
-    → m ≡ record was { words = words_to op was.words n } → d ≡ op_writes op
-    → IsDirect op → FitsShape op → n < length_of d
-    → word ≡ column op m.words n → later ≡ wrote m (nth_place d n) word
-    → later ≡ record was { words = words_to op was.words (n + 1) }
-column_written law m was later op d n word e at_d direct shape short value wrote_it =
-    let P : Range → Type 0 = λ r. n < length_of r in
-    word_written m was later op n word e
-    (value ∙ ap (λ (v : FieldModel). column op v.words n) e ∙ column_stays law op was.words n direct shape (subst P at_d short))
-    (wrote_it ∙ ap (λ (r : Range). wrote m (nth_place r n) word) at_d)
+-- a block more is written
+run_written : (m was later : FieldModel) (op : Op) (at n : ℕ) (words : List ℕ)
+    → m ≡ record was { words = words_to op was.words at } → ((j : ℕ) → j < n → get_or words j 0 ≡ column op was.words (at + j))
+    → later ≡ wrote_run m (run_of (op_writes op) at (length words)) words → length words ≡ n
+    → later ≡ record was { words = words_to op was.words (at + n) }
+run_written m was later op at n words is each after long =
+    after
+    ∙ ap (λ (k : ℕ). wrote_run m (run_of (op_writes op) at k) words) long
+    ∙ ap (λ (v : FieldModel). wrote_run v (run_of (op_writes op) at n) words) is
+    ∙ ap (λ (w : Words). record was { words = w }) (fun_ext (laid_on op was.words at n words each))
 
--- one turn of a `fill`
-pub fill_written : (m was later : FieldModel) (d : Range) (n word : ℕ)
-    → m ≡ record was { words = words_to (Fill d word) was.words n } → later ≡ wrote m (nth_place d n) word
-    → later ≡ record was { words = words_to (Fill d word) was.words (n + 1) }
-fill_written m was later d n word e wrote_it = word_written m was later (Fill d word) n word e refl wrote_it
+-- one block of an operation whose words come from words that are still to be written
+pub block_written : ColumnIsLocal → (m was later : FieldModel) (op : Op) (at n : ℕ) (words : List ℕ)
+    → m ≡ record was { words = words_to op was.words at } → IsDirect op → FitsShape op → at + n ≤ length_of (op_writes op)
+    → ((j : ℕ) → j < length words → get_or words j 0 ≡ column op m.words (at + j))
+    → later ≡ wrote_run m (run_of (op_writes op) at (length words)) words → length words ≡ n
+    → later ≡ record was { words = words_to op was.words (at + n) }
+block_written law m was later op at n words is direct shape within each after long =
+    run_written m was later op at n words is
+    (λ j short. each j (omega arith) ∙ ap (λ (v : FieldModel). column op v.words (at + j)) is
+    ∙ column_stays law op was.words at (at + j) direct shape (omega arith) (omega arith))
+    after long
 
--- one turn of a `scan`: the sum up to here is written
-pub sum_written : (m was later : FieldModel) (d x : Range) (n sum : ℕ)
-    → m ≡ record was { words = words_to (Scan d x) was.words n }
-    → sum ≡ word_of (total (nth_word was.words x) (n + 1)) → later ≡ wrote m (nth_place d n) sum
-    → later ≡ record was { words = words_to (Scan d x) was.words (n + 1) }
-sum_written m was later d x n sum e value wrote_it =
-    word_written m was later (Scan d x) n sum e
-    (value ∙ ap (λ (k : ℕ). word_of (total (nth_word was.words x) k)) (add-one n))
-    wrote_it
+-- one block of a `fill`
+pub fill_written : (m was later : FieldModel) (d : Range) (word at n : ℕ) (words run : List ℕ)
+    → m ≡ record was { words = words_to (Fill d word) was.words at } → ((j : ℕ) → j < length words → get_or words j 0 ≡ word)
+    → later ≡ wrote_run m (run_of d at (length run)) run → run ≡ take n words → n ≤ length words
+    → later ≡ record was { words = words_to (Fill d word) was.words (at + n) }
+fill_written m was later d word at n words run is each after front enough =
+    let long : length run ≡ n = ap length front ∙ (let l : length (take n words) ≡ n = omega (arith, length-take n words) in l) in
+    run_written m was later (Fill d word) at n run is
+    (λ j short. ap (λ (v : List ℕ). get_or v j 0) front ∙ get_or-take n words j 0 short ∙ each j (omega arith)) after long
 
--- the source's word that a `scan` reads
-pub scan_read : (m was : FieldModel) (d x : Range) (n read : ℕ)
-    → m ≡ record was { words = words_to (Scan d x) was.words n } → IsInStep d x → n < length_of d
-    → read ≡ nth_word m.words x n → read ≡ nth_word was.words x n
-scan_read m was d x n read e step short is =
-    is ∙ ap (λ (v : FieldModel). nth_word v.words x n) e ∙ step_there (Scan d x) was.words x n step short
+-- the words that a `scan` reads are as they were
+pub scan_read : (m was : FieldModel) (d x : Range) (at i : ℕ)
+    → m ≡ record was { words = words_to (Scan d x) was.words at } → IsInStep d x → at + i < length_of d
+    → nth_word m.words x (at + i) ≡ nth_word was.words x (at + i)
+scan_read m was d x at i is step short =
+    ap (λ (v : FieldModel). nth_word v.words x (at + i)) is ∙ step_there (Scan d x) was.words x at (at + i) step (omega arith) short
+
+-- the sum up to the end of a block, and up to each of its words
+pub scan_summed : (m was : FieldModel) (d x : Range) (at n sum later : ℕ)
+    → m ≡ record was { words = words_to (Scan d x) was.words at } → IsInStep d x → at + n ≤ length_of d
+    → sum ≡ word_of (total (nth_word was.words x) at)
+    → (k : ℕ) → later ≡ word_of (sum + total (λ i. nth_word m.words x (at + i)) k) → k ≡ n
+    → later ≡ word_of (total (nth_word was.words x) (at + n))
+scan_summed m was d x at n sum later is step within before k after long =
+    block_summed (nth_word was.words x) (λ i. nth_word m.words x (at + i)) at n k sum later before
+    (λ i short. scan_read m was d x at i is step (omega arith)) after long
+
+-- one block of a `scan`
+pub scan_written : (m was later : FieldModel) (d x : Range) (at n sum : ℕ) (words : List ℕ)
+    → m ≡ record was { words = words_to (Scan d x) was.words at } → IsInStep d x → at + n ≤ length_of d
+    → sum ≡ word_of (total (nth_word was.words x) at)
+    → ((j : ℕ) → j < length words → get_or words j 0 ≡ word_of (sum + total (λ i. nth_word m.words x (at + i)) (j + 1)))
+    → later ≡ wrote_run m (run_of d at (length words)) words → length words ≡ n
+    → later ≡ record was { words = words_to (Scan d x) was.words (at + n) }
+scan_written m was later d x at n sum words is step within before each after long =
+    run_written m was later (Scan d x) at n words is
+    (λ j short. let up : at + (j + 1) ≡ suc (at + j) = omega arith in
+    scan_summed m was d x at (j + 1) sum (get_or words j 0) is step (omega arith) before (j + 1) (each j (omega arith)) refl
+    ∙ ap (λ (k : ℕ). word_of (total (nth_word was.words x) k)) up)
+    after long

@@ -30,37 +30,6 @@ none_written op w = fun_ext (λ p.
     (not_true _ (λ t. let h : Inside (first_of (op_writes op) 0) p = inside_from _ _ t in
     let low : (op_writes op).low ≤ p.index = h.low in let high : p.index < (op_writes op).low + 0 = h.high in omega arith)))
 
-one_more : (op : Op) (w : Words) (n : ℕ) (q : Place)
-    → put (words_to op w n) (nth_place (op_writes op) n) (column op w n) q ≡ words_to op w (n + 1) q
-one_more op w n q =
-    let d : Range = op_writes op in
-    let p : Place = nth_place d n in
-    by_test (same_place p q)
-    (λ t. let same : (d.region ≡ q.region) × (d.low + n ≡ q.index) = same_from p q t in
-    let inside : in_range (first_of d (n + 1)) q ≡ true =
-    inside_to (first_of d (n + 1)) q (record { region = same.0; low = omega arith; high = omega arith }) in
-    let index : q.index - d.low ≡ n = omega arith in
-    chosen (same_place p q) (Some (column op w n)) (words_to op w n q) t
-    ∙ ap (λ (i : ℕ). Some (column op w i)) (sym index)
-    ∙ sym (chosen (in_range (first_of d (n + 1)) q) (Some (column op w (q.index - d.low))) (w q) inside))
-    (λ f. let tests : in_range (first_of d n) q ≡ in_range (first_of d (n + 1)) q =
-    same_test _ _
-    (λ t. let h : Inside (first_of d n) q = inside_from _ _ t in
-    let high : q.index < d.low + n = h.high in
-    inside_to (first_of d (n + 1)) q (record { region = h.region; low = h.low; high = omega arith }))
-    (λ t. let h : Inside (first_of d (n + 1)) q = inside_from _ _ t in
-    let high : q.index < d.low + (n + 1) = h.high in
-    let low : d.low ≤ q.index = h.low in
-    let apart : d.low + n ≢ q.index = λ e. let s : same_place p q ≡ true = same_to p q h.region e in cc in
-    inside_to (first_of d n) q (record { region = h.region; low = h.low; high = omega arith })) in
-    other (same_place p q) (Some (column op w n)) (words_to op w n q) f
-    ∙ ap (λ (b : Bool). cond b (Some (column op w (q.index - d.low))) (w q)) tests)
-
--- the word after the first n is written
-pub next_written : (op : Op) (w : Words) (n : ℕ)
-    → put (words_to op w n) (nth_place (op_writes op) n) (column op w n) ≡ words_to op w (n + 1)
-next_written op w n = fun_ext (λ q. one_more op w n q)
-
 -- with all words written, the operation is done
 pub all_written : (op : Op) (w : Words) → IsFull (op_writes op) → words_to op w (length_of (op_writes op)) ≡ op_meaning op w
 all_written op w full =

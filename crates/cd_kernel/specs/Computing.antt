@@ -16,6 +16,10 @@ computed m op = record m { words = op_meaning op m.words }
 abbrev pub nth_place : Range → ℕ → Place
 nth_place r i = record { region = r.region; index = r.low + i }
 
+-- n places of a range from the at-th on
+abbrev pub run_of : Range → ℕ → ℕ → Range
+run_of r at n = record { region = r.region; low = r.low + at; high = r.low + at + n }
+
 -- each place of a range is present
 pub record IsHere (m : FieldModel) (r : Range) : Type 0 where
   pub each : (p : Place) → in_range r p ≡ true → IsPresent m p

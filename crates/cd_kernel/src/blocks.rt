@@ -1,120 +1,203 @@
-// What an operation gives to one word of its destination, from the words as they stand.
-ghost use Rattle.std.specs.Prelude.{◌≡◌, ◌+◌, ◌*◌, ◌-◌, ◌^◌, ◌<◌, min, nat_lt, ◌∷◌, [], All, if◌then◌else◌};
+// What an operation gives to a block of its destination's words, from the words as they stand.
+ghost use Rattle.std.specs.Prelude.{◌≡◌, ℕ, ◌+◌, ◌*◌, ◌-◌, ◌^◌, ◌<◌, ◌≤◌, length, min, nat_lt, slice_index, ◌∷◌, [], All, if◌then◌else◌};
 ghost use Rattle.cd_base.specs.Words.{word_of};
-ghost use Rattle.cd_tree.specs.Operations.{column, greatest, length_of, nth_word, op_reads, op_writes, product_at, total, FitsShape, IsFull};
+ghost use Rattle.cd_tree.specs.Operations.{column, length_of, nth_word, op_reads, op_writes, product_at, total, FitsShape, IsFull};
 ghost use Rattle.cd_kernel.specs.Computing.{IsDirect, IsHere};
 
-use crate::words::read_nth;
+use crate::lists::{fill_with, join, weigh};
+use crate::totals::{greatest_word, sum_of_all, sum_of_products};
+use crate::words::{read_from, read_nth};
 use cd_base::Range;
 use cd_field::Field;
 use cd_tree::Op;
 
-/// The word that an operation gives to the i-th word of its destination.
-#[inline(always)]
-pub(crate) fn column_word<F: Field>(op: &Op, i: u32, field: &F) -> u64
+/// The words that an operation gives to its destination's from one on, as many as the list takes. A second list is there
+/// to read into.
+pub(crate) fn block_words<F: Field>(
+    op: &Op,
+    at: u32,
+    words: &mut [u64],
+    more: &mut [u64],
+    field: &F,
+)
     requires direct { IsDirect op.now }
     requires full { All IsFull (op_writes op.now ∷ op_reads op.now) }
     requires shape { FitsShape op.now }
     requires here { All (IsHere (F.model field.now)) (op_reads op.now) }
-    requires inside { i < length_of (op_writes op.now) }
-    ensures { result ≡ column op.now (F.model field.now).words i }
+    requires inside { at + length words.old ≤ length_of (op_writes op.now) }
+    requires room { length words.old + 2 ≤ length more.old }
+    ensures { (j : ℕ) → j < length words.new → slice_index words.new j ≡ column op.now (F.model field.now).words (at + j) }
 {
     match *op {
-        Op::Fill(_, word) => word,
-        Op::Copy(_, x) => read_nth(x, i, field),
-        Op::Add(_, x, z) => sum_of_two(x, z, i, field),
-        Op::Sub(_, x, z) => difference(x, z, i, field),
-        Op::Mul(_, x, z) => product(x, z, i, field),
-        Op::Axpy(d, factor, x) => multiple_added(d, factor, x, i, field),
+        Op::Fill(_, word) => fill_with(words, word),
+        Op::Copy(_, x) => read_from(x, at, words, field),
+        Op::Add(_, x, z) => sums(x, z, at, words, more, field),
+        Op::Sub(_, x, z) => differences(x, z, at, words, more, field),
+        Op::Mul(_, x, z) => products(x, z, at, words, more, field),
+        Op::Axpy(d, factor, x) => multiples_added(d, factor, x, at, words, more, field),
         Op::Scan(..) => unreachable!(),
-        Op::Sum(_, x) => sum_of_all(x, field),
-        Op::Dot(_, x, z) => sum_of_products(x, z, field),
-        Op::Max(_, x) => greatest_word(x, field),
-        Op::Stencil(_, a, b, c, x) => weighted(a, b, c, x, i, field),
-        Op::Spmv(_, s, c, v, x) => row_product(s, c, v, x, i, field),
+        Op::Sum(_, x) => fill_with(words, sum_of_all(x, field)),
+        Op::Dot(_, x, z) => fill_with(words, sum_of_products(x, z, field)),
+        Op::Max(_, x) => fill_with(words, greatest_word(x, field)),
+        Op::Stencil(_, a, b, c, x) => weighted(a, b, c, x, at, words, more, field),
+        Op::Spmv(_, s, c, v, x) => row_products(s, c, v, x, at, words, field),
     }
 }
 
-fn sum_of_two<F: Field>(x: Range, z: Range, i: u32, field: &F) -> u64
-    requires inside { (i < length_of x) × (i < length_of z) }
+// Each word is what the function gives for the words of two ranges.
+#[inline(always)]
+fn from_two<F: Field, G: Fn(u64, u64) -> u64>(
+    x: Range,
+    z: Range,
+    at: u32,
+    words: &mut [u64],
+    more: &mut [u64],
+    field: &F,
+    give: G,
+)
+    requires inside { (at + length words.old ≤ length_of x) × (at + length words.old ≤ length_of z) }
     requires here { IsHere (F.model field.now) x × IsHere (F.model field.now) z }
-    ensures { result ≡ word_of (nth_word (F.model field.now).words x i + nth_word (F.model field.now).words z i) }
+    requires room { length words.old ≤ length more.old }
+    requires call { G.IsAlwaysCallable give }
+    ensures { (j : ℕ) → j < length words.new → G.post give (nth_word (F.model field.now).words x (at + j)) (nth_word (F.model field.now).words z (at + j)) (slice_index words.new j) }
 {
-    read_nth(x, i, field).wrapping_add(read_nth(z, i, field))
+    let more = &mut more[..words.len()];
+    read_from(x, at, words, field);
+    read_from(z, at, more, field);
+    join(words, more, give);
 }
 
-fn difference<F: Field>(x: Range, z: Range, i: u32, field: &F) -> u64
-    requires inside { (i < length_of x) × (i < length_of z) }
+fn sums<F: Field>(x: Range, z: Range, at: u32, words: &mut [u64], more: &mut [u64], field: &F)
+    requires inside { (at + length words.old ≤ length_of x) × (at + length words.old ≤ length_of z) }
     requires here { IsHere (F.model field.now) x × IsHere (F.model field.now) z }
-    ensures { result ≡ word_of (nth_word (F.model field.now).words x i + (2 ^ 64 - nth_word (F.model field.now).words z i)) }
+    requires room { length words.old ≤ length more.old }
+    ensures { (j : ℕ) → j < length words.new → slice_index words.new j ≡ word_of (nth_word (F.model field.now).words x (at + j) + nth_word (F.model field.now).words z (at + j)) }
 {
-    read_nth(x, i, field).wrapping_sub(read_nth(z, i, field))
+    from_two(
+        x,
+        z,
+        at,
+        words,
+        more,
+        field,
+        |a: u64, b: u64| -> u64
+            ensures { result ≡ word_of (a + b) }
+        { a.wrapping_add(b) },
+    );
 }
 
-fn product<F: Field>(x: Range, z: Range, i: u32, field: &F) -> u64
-    requires inside { (i < length_of x) × (i < length_of z) }
+fn differences<F: Field>(
+    x: Range,
+    z: Range,
+    at: u32,
+    words: &mut [u64],
+    more: &mut [u64],
+    field: &F,
+)
+    requires inside { (at + length words.old ≤ length_of x) × (at + length words.old ≤ length_of z) }
     requires here { IsHere (F.model field.now) x × IsHere (F.model field.now) z }
-    ensures { result ≡ word_of (nth_word (F.model field.now).words x i * nth_word (F.model field.now).words z i) }
+    requires room { length words.old ≤ length more.old }
+    ensures { (j : ℕ) → j < length words.new → slice_index words.new j ≡ word_of (nth_word (F.model field.now).words x (at + j) + (2 ^ 64 - nth_word (F.model field.now).words z (at + j))) }
 {
-    read_nth(x, i, field).wrapping_mul(read_nth(z, i, field))
+    from_two(
+        x,
+        z,
+        at,
+        words,
+        more,
+        field,
+        |a: u64, b: u64| -> u64
+            ensures { result ≡ word_of (a + (2 ^ 64 - b)) }
+        { a.wrapping_sub(b) },
+    );
 }
 
-fn multiple_added<F: Field>(d: Range, factor: u64, x: Range, i: u32, field: &F) -> u64
-    requires inside { (i < length_of d) × (i < length_of x) }
+fn products<F: Field>(x: Range, z: Range, at: u32, words: &mut [u64], more: &mut [u64], field: &F)
+    requires inside { (at + length words.old ≤ length_of x) × (at + length words.old ≤ length_of z) }
+    requires here { IsHere (F.model field.now) x × IsHere (F.model field.now) z }
+    requires room { length words.old ≤ length more.old }
+    ensures { (j : ℕ) → j < length words.new → slice_index words.new j ≡ word_of (nth_word (F.model field.now).words x (at + j) * nth_word (F.model field.now).words z (at + j)) }
+{
+    from_two(
+        x,
+        z,
+        at,
+        words,
+        more,
+        field,
+        |a: u64, b: u64| -> u64
+            ensures { result ≡ word_of (a * b) }
+        { a.wrapping_mul(b) },
+    );
+}
+
+fn multiples_added<F: Field>(
+    d: Range,
+    factor: u64,
+    x: Range,
+    at: u32,
+    words: &mut [u64],
+    more: &mut [u64],
+    field: &F,
+)
+    requires inside { (at + length words.old ≤ length_of d) × (at + length words.old ≤ length_of x) }
     requires here { IsHere (F.model field.now) d × IsHere (F.model field.now) x }
-    ensures { result ≡ word_of (nth_word (F.model field.now).words d i + factor * nth_word (F.model field.now).words x i) }
+    requires room { length words.old ≤ length more.old }
+    ensures { (j : ℕ) → j < length words.new → slice_index words.new j ≡ word_of (nth_word (F.model field.now).words d (at + j) + factor * nth_word (F.model field.now).words x (at + j)) }
 {
-    let multiple = factor.wrapping_mul(read_nth(x, i, field));
-    read_nth(d, i, field).wrapping_add(multiple)
+    from_two(
+        d,
+        x,
+        at,
+        words,
+        more,
+        field,
+        |a: u64, b: u64| -> u64
+            ensures { result ≡ word_of (a + factor * b) }
+        { a.wrapping_add(factor.wrapping_mul(b)) },
+    );
 }
 
-fn sum_of_all<F: Field>(x: Range, field: &F) -> u64
-    requires full { IsFull x }
+// Three words from each on, weighted.
+fn weighted<F: Field>(
+    a: u64,
+    b: u64,
+    c: u64,
+    x: Range,
+    at: u32,
+    words: &mut [u64],
+    more: &mut [u64],
+    field: &F,
+)
+    requires inside { at + length words.old + 2 ≤ length_of x }
     requires here { IsHere (F.model field.now) x }
-    ensures { result ≡ word_of (total (nth_word (F.model field.now).words x) (length_of x)) }
+    requires room { length words.old + 2 ≤ length more.old }
+    ensures { (j : ℕ) → j < length words.new → slice_index words.new j ≡ word_of (a * nth_word (F.model field.now).words x (at + j) + b * nth_word (F.model field.now).words x (at + j + 1) + c * nth_word (F.model field.now).words x (at + j + 2)) }
 {
-    let mut sum = 0u64;
-    for j in 0..x.high - x.low {
-        sum = sum.wrapping_add(read_nth(x, j, field));
-    }
-    sum
+    let more = &mut more[..words.len() + 2];
+    read_from(x, at, more, field);
+    weigh(a, b, c, words, more);
 }
 
-fn sum_of_products<F: Field>(x: Range, z: Range, field: &F) -> u64
-    requires full { IsFull x }
-    requires same { length_of x ≡ length_of z }
-    requires here { IsHere (F.model field.now) x × IsHere (F.model field.now) z }
-    ensures { result ≡ word_of (total (λ j. nth_word (F.model field.now).words x j * nth_word (F.model field.now).words z j) (length_of x)) }
+// The rows of a sparse product from one on.
+fn row_products<F: Field>(
+    s: Range,
+    c: Range,
+    v: Range,
+    x: Range,
+    at: u32,
+    words: &mut [u64],
+    field: &F,
+)
+    requires inside { at + length words.old + 1 ≤ length_of s }
+    requires full { IsFull v × IsFull x }
+    requires same { length_of c ≡ length_of v }
+    requires here { All (IsHere (F.model field.now)) (s ∷ c ∷ v ∷ x ∷ []) }
+    ensures { (j : ℕ) → j < length words.new → slice_index words.new j ≡ word_of (total (product_at (F.model field.now).words s c v x (at + j)) (length_of v)) }
 {
-    let mut sum = 0u64;
-    for j in 0..x.high - x.low {
-        sum = sum.wrapping_add(product(x, z, j, field));
+    for i in 0..words.len() {
+        words[i] = row_product(s, c, v, x, at + i as u32, field);
     }
-    sum
-}
-
-fn greatest_word<F: Field>(x: Range, field: &F) -> u64
-    requires full { IsFull x }
-    requires here { IsHere (F.model field.now) x }
-    ensures { result ≡ greatest (nth_word (F.model field.now).words x) (length_of x) }
-{
-    let mut most = 0u64;
-    for j in 0..x.high - x.low {
-        most = most.max(read_nth(x, j, field));
-    }
-    most
-}
-
-// Three words from the i-th on, weighted.
-fn weighted<F: Field>(a: u64, b: u64, c: u64, x: Range, i: u32, field: &F) -> u64
-    requires inside { i + 2 < length_of x }
-    requires here { IsHere (F.model field.now) x }
-    ensures { result ≡ word_of (a * nth_word (F.model field.now).words x i + b * nth_word (F.model field.now).words x (i + 1) + c * nth_word (F.model field.now).words x (i + 2)) }
-{
-    let first = a.wrapping_mul(read_nth(x, i, field));
-    let second = b.wrapping_mul(read_nth(x, i + 1, field));
-    let third = c.wrapping_mul(read_nth(x, i + 2, field));
-    first.wrapping_add(second).wrapping_add(third)
 }
 
 // A row of a sparse product: its positions go from its start up to the next row's, as far as there are values.

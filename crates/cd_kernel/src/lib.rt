@@ -1,12 +1,15 @@
 //! The twelve operations, each run on a machine: exactly its meaning, and nothing but words changes.
 //!
-//! Words are written one by one from the first on. A source is the destination itself or apart from it, so each source
-//! word is read before it is written; `scan`, which needs earlier words, keeps its sum. Each call's work is linear in
-//! the words that it reads and writes; a sparse product reads each row's own positions alone.
+//! Words are computed in blocks from the first on: runs of the sources are read, a block is computed, and one run is
+//! written. A source is the destination itself or apart from it, so each source word is read before it is written; `scan`,
+//! which needs earlier words, keeps its sum. Each call's work is linear in the words that it reads and writes; a sparse
+//! product reads each row's own positions alone.
 #![tactic(auto)]
 
-mod columns;
+mod blocks;
+mod lists;
 mod operations;
+mod totals;
 mod words;
 
 pub use operations::apply;

@@ -1,11 +1,14 @@
-ghost use Rattle.std.specs.Prelude.{◌≡◌, ◌∷◌, [], All};
-ghost use Rattle.cd_tree.specs.Operations.{op_reads, op_writes, FitsShape, IsFull, IsInStep};
+ghost use Rattle.std.specs.Prelude.{◌≡◌, ℕ, ◌+◌, ◌<◌, ◌≤◌, length, slice_index, ◌∷◌, [], All};
+ghost use Rattle.cd_base.specs.Words.{word_of};
+ghost use Rattle.cd_tree.specs.Operations.{column, length_of, nth_word, op_reads, op_writes, total, FitsShape, IsFull, IsInStep};
 ghost use Rattle.cd_tree.specs.declared.operation.Op.TheVariants.{Fill, Scan};
-ghost use Rattle.cd_field.specs.FieldModel.{ArePresent};
-ghost use Rattle.cd_kernel.specs.Computing.{computed, IsDirect};
+ghost use Rattle.cd_field.specs.FieldModel.{ArePresent, wrote_run};
+ghost use Rattle.cd_kernel.specs.Computing.{computed, run_of, IsDirect, IsHere};
 
-use crate::columns::column_word;
-use crate::words::{read_nth, write_nth};
+use crate::blocks::block_words;
+use crate::lists::{fill_with, sum_up};
+use crate::totals::{BLOCK, block_length};
+use crate::words::{read_from, write_from};
 use cd_base::Range;
 use cd_field::Field;
 use cd_tree::{Op, laws, writes};
@@ -20,22 +23,20 @@ pub fn apply<F: Field>(op: &Op, field: &mut F)
     match *op {
         Op::Scan(d, x) => scan(d, x, field),
         Op::Fill(d, word) => fill(d, word, field),
-        Op::Copy(d, x) => write_columns(&Op::Copy(d, x), field),
-        Op::Add(d, x, z) => write_columns(&Op::Add(d, x, z), field),
-        Op::Sub(d, x, z) => write_columns(&Op::Sub(d, x, z), field),
-        Op::Mul(d, x, z) => write_columns(&Op::Mul(d, x, z), field),
-        Op::Axpy(d, factor, x) => write_columns(&Op::Axpy(d, factor, x), field),
-        Op::Sum(d, x) => write_columns(&Op::Sum(d, x), field),
-        Op::Dot(d, x, z) => write_columns(&Op::Dot(d, x, z), field),
-        Op::Max(d, x) => write_columns(&Op::Max(d, x), field),
-        Op::Stencil(d, a, b, c, x) => write_columns(&Op::Stencil(d, a, b, c, x), field),
-        Op::Spmv(d, s, c, v, x) => write_columns(&Op::Spmv(d, s, c, v, x), field),
+        Op::Copy(..)
+        | Op::Add(..)
+        | Op::Sub(..)
+        | Op::Mul(..)
+        | Op::Axpy(..)
+        | Op::Sum(..)
+        | Op::Dot(..)
+        | Op::Max(..)
+        | Op::Stencil(..)
+        | Op::Spmv(..) => write_columns(op, field),
     }
 }
 
-// Any operation but `scan`: each word of the destination from the words before. It is written out for each operation, so
-// that which one it is is asked once, and not for each word.
-#[inline(always)]
+// Any operation but `scan`: each word of the destination from the words before, a block at a time.
 fn write_columns<F: Field>(op: &Op, field: &mut F)
     requires direct { IsDirect op.now }
     requires full { All IsFull (op_writes op.now ∷ op_reads op.now) }
@@ -45,21 +46,46 @@ fn write_columns<F: Field>(op: &Op, field: &mut F)
 {
     laws::an_operation_sees_its_sources_alone();
     let d = writes(op);
-    for i in 0..d.high - d.low {
-        let word = column_word(op, i, field);
-        write_nth(d, i, word, field);
+    let count = d.high - d.low;
+    let mut words = [0; BLOCK];
+    let mut more = [0; BLOCK + 2];
+    let mut at = 0;
+    while at < count {
+        let length = block_length(at, count);
+        write_block(op, at, &mut words[..length as usize], &mut more, field);
+        at += length;
     }
 }
 
-// One word at each place of the destination. It is a call of its own, so that the word stands in a register throughout.
-#[inline(never)]
+// Writes the words of the destination from one on, as many as the list takes.
+fn write_block<F: Field>(op: &Op, at: u32, words: &mut [u64], more: &mut [u64], field: &mut F)
+    requires direct { IsDirect op.now }
+    requires full { All IsFull (op_writes op.now ∷ op_reads op.now) }
+    requires shape { FitsShape op.now }
+    requires here { All (IsHere (F.model field.old)) (op_writes op.now ∷ op_reads op.now) }
+    requires inside { at + length words.old ≤ length_of (op_writes op.now) }
+    requires room { length words.old + 2 ≤ length more.old }
+    ensures values { (j : ℕ) → j < length words.new → slice_index words.new j ≡ column op.now (F.model field.old).words (at + j) }
+    ensures written { F.model field.new ≡ wrote_run (F.model field.old) (run_of (op_writes op.now) at (length words.new)) words.new }
+{
+    block_words(op, at, words, more, field);
+    write_from(writes(op), at, words, field);
+}
+
+// One word at each place of the destination.
 fn fill<F: Field>(d: Range, word: u64, field: &mut F)
     requires full { IsFull d }
     requires present { ArePresent (F.model field.old) (d ∷ []) }
     ensures { F.model field.new ≡ computed (F.model field.old) (Fill d word) }
 {
-    for i in 0..d.high - d.low {
-        write_nth(d, i, word, field);
+    let count = d.high - d.low;
+    let mut words = [0; BLOCK];
+    fill_with(&mut words, word);
+    let mut at = 0;
+    while at < count {
+        let length = block_length(at, count);
+        write_from(d, at, &words[..length as usize], field);
+        at += length;
     }
 }
 
@@ -70,9 +96,34 @@ fn scan<F: Field>(d: Range, x: Range, field: &mut F)
     requires present { ArePresent (F.model field.old) (d ∷ x ∷ []) }
     ensures { F.model field.new ≡ computed (F.model field.old) (Scan d x) }
 {
+    let count = d.high - d.low;
+    let mut words = [0; BLOCK];
     let mut sum = 0u64;
-    for i in 0..d.high - d.low {
-        sum = sum.wrapping_add(read_nth(x, i, field));
-        write_nth(d, i, sum, field);
+    let mut at = 0;
+    while at < count {
+        let length = block_length(at, count);
+        sum = scan_block(sum, d, x, at, &mut words[..length as usize], field);
+        at += length;
     }
+}
+
+// Sums that go on over the source's words from one on, as many as the list takes. Gives the last.
+fn scan_block<F: Field>(
+    sum: u64,
+    d: Range,
+    x: Range,
+    at: u32,
+    words: &mut [u64],
+    field: &mut F,
+) -> u64
+    requires inside { (at + length words.old ≤ length_of d) × (at + length words.old ≤ length_of x) }
+    requires here { IsHere (F.model field.old) d × IsHere (F.model field.old) x }
+    ensures values { (j : ℕ) → j < length words.new → slice_index words.new j ≡ word_of (sum + total (λ i. nth_word (F.model field.old).words x (at + i)) (j + 1)) }
+    ensures written { F.model field.new ≡ wrote_run (F.model field.old) (run_of d at (length words.new)) words.new }
+    ensures last { result ≡ word_of (sum + total (λ i. nth_word (F.model field.old).words x (at + i)) (length words.new)) }
+{
+    read_from(x, at, words, field);
+    let last = sum_up(sum, words);
+    write_from(d, at, words, field);
+    last
 }

@@ -1,8 +1,8 @@
-// The words of a range by their number.
-ghost use Rattle.std.specs.Prelude.{◌≡◌, ◌<◌};
+// The words of a range by their number, and in runs.
+ghost use Rattle.std.specs.Prelude.{◌≡◌, ℕ, ◌+◌, ◌<◌, ◌≤◌, length, slice_index};
 ghost use Rattle.cd_tree.specs.Operations.{length_of, nth_word};
-ghost use Rattle.cd_field.specs.FieldModel.{wrote};
-ghost use Rattle.cd_kernel.specs.Computing.{IsHere, nth_place};
+ghost use Rattle.cd_field.specs.FieldModel.{wrote_run};
+ghost use Rattle.cd_kernel.specs.Computing.{IsHere, nth_place, run_of};
 
 use cd_base::{Place, Range};
 use cd_field::Field;
@@ -16,15 +16,6 @@ pub(crate) fn read_nth<F: Field>(range: Range, i: u32, field: &F) -> u64
     field.read(nth(range, i))
 }
 
-/// Changes the i-th word of a range.
-pub(crate) fn write_nth<F: Field>(range: Range, i: u32, word: u64, field: &mut F)
-    requires inside { i < length_of range }
-    requires here { IsHere (F.model field.old) range }
-    ensures { F.model field.new ≡ wrote (F.model field.old) (nth_place range i) word }
-{
-    field.write(nth(range, i), word);
-}
-
 // The i-th place of a range.
 fn nth(range: Range, i: u32) -> Place
     requires { i < length_of range }
@@ -33,5 +24,36 @@ fn nth(range: Range, i: u32) -> Place
     Place {
         region: range.region,
         index: range.low + i,
+    }
+}
+
+/// The words of a range from one on, as many as the list takes.
+pub(crate) fn read_from<F: Field>(range: Range, at: u32, words: &mut [u64], field: &F)
+    requires inside { at + length words.old ≤ length_of range }
+    requires here { IsHere (F.model field.now) range }
+    ensures { (j : ℕ) → j < length words.new → slice_index words.new j ≡ nth_word (F.model field.now).words range (at + j) }
+{
+    field.read_run(run(range, at, words.len() as u32), words);
+}
+
+/// Changes the words of a range from one on to those of a list.
+pub(crate) fn write_from<F: Field>(range: Range, at: u32, words: &[u64], field: &mut F)
+    requires inside { at + length words.now ≤ length_of range }
+    requires here { IsHere (F.model field.old) range }
+    ensures { F.model field.new ≡ wrote_run (F.model field.old) (run_of range at (length words.now)) words.now }
+{
+    field.write_run(run(range, at, words.len() as u32), words);
+}
+
+// So many places of a range from one on.
+fn run(range: Range, at: u32, count: u32) -> Range
+    requires { at + count ≤ length_of range }
+    ensures { result ≡ run_of range at count }
+{
+    let low = range.low + at;
+    Range {
+        region: range.region,
+        low,
+        high: low + count,
     }
 }

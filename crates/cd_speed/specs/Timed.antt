@@ -1,14 +1,15 @@
--- The words that operations are timed on: five regions of one length.
-use Rattle.std.specs.Prelude.{◌<◌, ◌≤◌}
+-- The words that operations are timed on: regions of one length, of which the first is used by none.
+use Rattle.std.specs.Prelude.{ℕ, ◌<◌, ◌≤◌}
 use Rattle.cd_base.specs.declared.place.Place.{Place}
 use Rattle.cd_base.specs.declared.place.Range.{Range}
 use Rattle.cd_field.specs.FieldModel.{FieldModel, IsPresent}
 
--- each word of the five regions is present
-pub record HasRegions (m : FieldModel) : Type 0 where
-  pub each : (p : Place) → p.region < 5 → p.index < 330002 → IsPresent m p
+-- each word of the six regions, from one on, is present
+pub record HasRegions (m : FieldModel) (from : ℕ) : Type 0 where
+  pub each : (p : Place) → from ≤ p.region → p.region < 6 → p.index < 330002 → IsPresent m p
 
--- a range of one of the regions
-pub record IsInside (r : Range) : Type 0 where
-  pub region : r.region < 5
+-- a range of one of the regions from one on
+pub record IsInside (from : ℕ) (r : Range) : Type 0 where
+  pub first : from ≤ r.region
+  pub region : r.region < 6
   pub high : r.high ≤ 330002

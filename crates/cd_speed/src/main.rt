@@ -1,6 +1,6 @@
-//! A program that measures: it runs one operation some number of times, on a machine (`field OP TURNS`) or as a plain loop
-//! over slices (`slice OP TURNS`), and prints a sum of words that the turns gave, which is the same for both. It has no
-//! clock: `bench/operations.sh` takes the time of many turns and of few.
+//! A program that measures: it runs one operation some number of times, on a machine (`field OP TURNS`), on a part that is
+//! carved out of one (`part OP TURNS`) or as a plain loop over slices (`slice OP TURNS`), and prints a sum of words that the
+//! turns gave, which is the same for all. It has no clock: `bench/operations.sh` takes the time of many turns and of few.
 #![tactic(auto)]
 
 mod machine;
@@ -24,6 +24,7 @@ const NO_MEMORY: u8 = 6;
 #[derive(Debug, Clone, Copy)]
 enum Way {
     Field,
+    Part,
     Slice,
 }
 
@@ -63,6 +64,8 @@ fn call_of(words: &[String]) -> Option<(Way, &str, u32)> {
 fn way_of(word: &str) -> Option<Way> {
     if word == "field" {
         Some(Way::Field)
+    } else if word == "part" {
+        Some(Way::Part)
     } else if word == "slice" {
         Some(Way::Slice)
     } else {
@@ -77,6 +80,7 @@ fn sum_of_turns(alloc: Global, way: Way, name: &str, turns: u32) -> Result<Optio
     };
     let sum = match way {
         Way::Field => machine::sum_of_turns(alloc, op, turns)?,
+        Way::Part => machine::sum_of_part(alloc, op, turns)?,
         Way::Slice => Some(plain::sum_of_turns(alloc, op, turns)?),
     };
     Ok(sum)

@@ -17,8 +17,10 @@ pub(crate) const LENGTH: u32 = 330_002;
 /// Positions in a row of the sparse product.
 const ROW: u32 = 4;
 
-/// The words that each region begins with: the destination, two sources, the starts of rows, and columns.
-pub(crate) const PATTERNS: [Pattern; 5] = [
+/// The words that each region begins with: one that no operation uses, the destination, two sources, the starts of rows, and
+/// columns.
+pub(crate) const PATTERNS: [Pattern; 6] = [
+    Pattern::Const(0),
     Pattern::Const(0),
     Pattern::Mix(1),
     Pattern::Mix(2),
@@ -36,12 +38,12 @@ fn from_first(region: u32, high: u32) -> Range {
 
 /// The operation of a name.
 pub(crate) fn named(name: &str) -> Option<Op> {
-    let d = from_first(0, COUNT);
-    let one = from_first(0, 1);
-    let x = from_first(1, COUNT);
-    let z = from_first(2, COUNT);
-    let rows = from_first(0, COUNT / ROW);
-    let starts = from_first(3, COUNT / ROW + 1);
+    let d = from_first(1, COUNT);
+    let one = from_first(1, 1);
+    let x = from_first(2, COUNT);
+    let z = from_first(3, COUNT);
+    let rows = from_first(1, COUNT / ROW);
+    let starts = from_first(4, COUNT / ROW + 1);
     let table = [
         ("fill", Op::Fill(d, 7)),
         ("copy", Op::Copy(d, x)),
@@ -53,8 +55,8 @@ pub(crate) fn named(name: &str) -> Option<Op> {
         ("sum", Op::Sum(one, x)),
         ("dot", Op::Dot(one, x, z)),
         ("max", Op::Max(one, x)),
-        ("stencil", Op::Stencil(d, 1, 2, 3, from_first(1, LENGTH))),
-        ("spmv", Op::Spmv(rows, starts, from_first(4, COUNT), z, x)),
+        ("stencil", Op::Stencil(d, 1, 2, 3, from_first(2, LENGTH))),
+        ("spmv", Op::Spmv(rows, starts, from_first(5, COUNT), z, x)),
     ];
     for (known, op) in table {
         if known == name {
@@ -64,9 +66,9 @@ pub(crate) fn named(name: &str) -> Option<Op> {
     None
 }
 
-/// The five regions.
+/// The six regions.
 pub(crate) fn regions(alloc: Global) -> Result<Regions, NoMemory>
-    ensures { IfOk result (λ regions. (p : _) → p.region < 5 → p.index < 330002 → IsSome (initial regions p)) }
+    ensures { IfOk result (λ regions. (p : _) → p.region < 6 → p.index < 330002 → IsSome (initial regions p)) }
 {
     let mut regions = Items::new(alloc);
     for pattern in PATTERNS {
@@ -80,9 +82,9 @@ pub(crate) fn regions(alloc: Global) -> Result<Regions, NoMemory>
     Ok(regions)
 }
 
-/// Whether the ranges of an operation lie in the regions.
+/// Whether the ranges of an operation lie in the regions from the second on.
 pub(crate) fn is_inside(op: &Op) -> bool
-    ensures { IsTrue result → All IsInside (op_writes op.now ∷ op_reads op.now) }
+    ensures { IsTrue result → All (IsInside 1) (op_writes op.now ∷ op_reads op.now) }
 {
     match *op {
         Op::Fill(d, _) => has_all(&[d]),
@@ -100,9 +102,7 @@ pub(crate) fn is_inside(op: &Op) -> bool
 }
 
 fn has_all(ranges: &[Range]) -> bool
-    ensures { IsTrue result → All IsInside ranges.now }
+    ensures { IsTrue result → All (IsInside 1) ranges.now }
 {
-    ranges
-        .iter()
-        .all(|range| range.region < 5 && range.high <= LENGTH)
+    ranges.iter().all(|range| range.region >= 1 && range.region < 6 && range.high <= LENGTH)
 }

@@ -6,7 +6,7 @@ use cd_base::{NoMemory, Pattern, Range};
 use cd_tree::Op;
 use std::alloc::Global;
 
-/// The words of the five regions.
+/// The words of the five regions that operations use.
 #[derive(Drop)]
 struct Lists {
     d: Vec<u64>,
@@ -18,7 +18,7 @@ struct Lists {
 
 /// Runs an operation so many times, each time on another word first. Gives a sum of words that it wrote.
 pub(crate) fn sum_of_turns(alloc: Global, op: Op, turns: u32) -> Result<u64, NoMemory> {
-    let [d, x, z, starts, columns] = PATTERNS;
+    let [_, d, x, z, starts, columns] = PATTERNS;
     let mut lists = Lists {
         d: words(alloc, d)?,
         x: words(alloc, x)?,

@@ -1,7 +1,11 @@
+use Rattle.std.proofs.Common.{rules, arith}
 use Rattle.cd_kernel.proofs.Turns.{fill_written}
 use Rattle.cd_kernel.proofs.operations.fill.Goals as goal
 
-pub loop-i-preserved : goal.loop-i-preserved
-loop-i-preserved g c =
-    fill_written (g.F.Field.model c.loop-i.field) (g.F.Field.model c.args.field.now) (g.F.Field.model c.write_nth.new.field)
-    c.args.d c.loop-i.i c.args.word c.loop-i.invariant c.write_nth.ensures
+pub loop-at-preserved : goal.loop-at-preserved
+loop-at-preserved g c = record {
+  within = omega arith;
+  written = fill_written (g.F.Field.model c.loop-at.field) (g.F.Field.model c.args.field.now) (g.F.Field.model c.write_from.new.field)
+      c.args.d c.args.word c.loop-at.at c.block_length-length.result c.fill_with.new.words _ c.loop-at.invariant.written
+      c.fill_with.ensures c.write_from.ensures (search rules) (search rules);
+}

@@ -2,7 +2,7 @@ use Rattle.std.proofs.Common.{◌≡◌, ◌+◌, min, refl, ap, ◌∙◌, arit
 use Rattle.cd_base.specs.Words.{Words}
 use Rattle.cd_tree.specs.Operations.{length_of, nth_word}
 use Rattle.cd_kernel.proofs.Rows.{row_begun, row_more, row_done}
-use Rattle.cd_kernel.proofs.columns.row_product.Goals as goal
+use Rattle.cd_kernel.proofs.blocks.row_product.Goals as goal
 
 pub loop-p-init : goal.loop-p-init
 loop-p-init g c =

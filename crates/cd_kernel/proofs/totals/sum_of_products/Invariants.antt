@@ -1,0 +1,14 @@
+use Rattle.std.proofs.Common.{◌≡◌, ◌≤◌, ◌-◌, ◌*◌}
+use Rattle.cd_base.specs.Words.{word_of}
+use Rattle.cd_tree.specs.Operations.{nth_word, total}
+use Rattle.cd_kernel.proofs.totals.sum_of_products.Given as goal
+
+abbrev pub invariant-loop-at : goal.invariant-loop-at
+invariant-loop-at g l = record {
+  within : l.at ≤ l.count;
+  so_far : l.sum
+      ≡ word_of (total (λ j. nth_word (g.F.Field.model l.field).words l.x j * nth_word (g.F.Field.model l.field).words l.z j) l.at);
+}
+
+abbrev pub decreases-loop-at : goal.decreases-loop-at
+decreases-loop-at g l = l.count - l.at

@@ -1,0 +1,83 @@
+// What operations make of lists of words.
+ghost use Rattle.std.specs.Prelude.{◌≡◌, ℕ, ◌+◌, ◌*◌, ◌<◌, length, max, slice_index};
+ghost use Rattle.cd_base.specs.Words.{word_of};
+ghost use Rattle.cd_tree.specs.Operations.{greatest, total};
+
+/// Each word becomes what the function gives for it and the word of another list at its index.
+#[inline(always)]
+pub(crate) fn join<G: Fn(u64, u64) -> u64>(words: &mut [u64], more: &[u64], give: G)
+    requires same { length words.old ≡ length more.now }
+    requires call { G.IsAlwaysCallable give }
+    ensures { (j : ℕ) → j < length words.new → G.post give (slice_index words.old j) (slice_index more.now j) (slice_index words.new j) }
+{
+    for i in 0..words.len() {
+        words[i] = give(words[i], more[i]);
+    }
+}
+
+/// All words become one.
+pub(crate) fn fill_with(words: &mut [u64], word: u64)
+    ensures { (j : ℕ) → j < length words.new → slice_index words.new j ≡ word }
+{
+    words.fill(word);
+}
+
+/// A sum goes on over words.
+pub(crate) fn add_all(sum: u64, words: &[u64]) -> u64
+    ensures { result ≡ word_of (sum + total (slice_index words.now) (length words.now)) }
+{
+    let mut sum = sum;
+    for i in 0..words.len() {
+        sum = sum.wrapping_add(words[i]);
+    }
+    sum
+}
+
+/// A sum goes on over the products of the words of two lists.
+pub(crate) fn add_products(sum: u64, words: &[u64], more: &[u64]) -> u64
+    requires { length words.now ≡ length more.now }
+    ensures { result ≡ word_of (sum + total (λ j. slice_index words.now j * slice_index more.now j) (length words.now)) }
+{
+    let mut sum = sum;
+    for i in 0..words.len() {
+        sum = sum.wrapping_add(words[i].wrapping_mul(more[i]));
+    }
+    sum
+}
+
+/// The greatest of a word and a list's.
+pub(crate) fn greatest_with(most: u64, words: &[u64]) -> u64
+    ensures { result ≡ max most (greatest (slice_index words.now) (length words.now)) }
+{
+    let mut most = most;
+    for i in 0..words.len() {
+        most = most.max(words[i]);
+    }
+    most
+}
+
+/// Each word becomes the sum that goes on up to it. Gives the last.
+pub(crate) fn sum_up(sum: u64, words: &mut [u64]) -> u64
+    ensures each { (j : ℕ) → j < length words.new → slice_index words.new j ≡ word_of (sum + total (slice_index words.old) (j + 1)) }
+    ensures last { result ≡ word_of (sum + total (slice_index words.old) (length words.old)) }
+{
+    let mut sum = sum;
+    for i in 0..words.len() {
+        sum = sum.wrapping_add(words[i]);
+        words[i] = sum;
+    }
+    sum
+}
+
+/// Each word becomes three words of another list, from its index on, weighted.
+pub(crate) fn weigh(a: u64, b: u64, c: u64, words: &mut [u64], more: &[u64])
+    requires { length more.now ≡ length words.old + 2 }
+    ensures { (j : ℕ) → j < length words.new → slice_index words.new j ≡ word_of (a * slice_index more.now j + b * slice_index more.now (j + 1) + c * slice_index more.now (j + 2)) }
+{
+    for i in 0..words.len() {
+        let first = a.wrapping_mul(more[i]);
+        let second = b.wrapping_mul(more[i + 1]);
+        let third = c.wrapping_mul(more[i + 2]);
+        words[i] = first.wrapping_add(second).wrapping_add(third);
+    }
+}
