@@ -14,7 +14,7 @@ use std::sync::Wait;
 pub trait Pass: Sized + Send + Drop {
     ghost model: { Self → PassModel };
 
-    /// Keeps words under a new id, and holds it once. It may wait.
+    /// Keeps words under an id that this pass neither holds nor has seen, and holds it once. It may wait.
     fn keep<R: Wait>(&mut self, rt: &R, words: &[u64]) -> Result<KeepId, NoMemory>
         requires piece { IsPiece words.now }
         requires room { 0 < (model self.old).room }
@@ -64,6 +64,8 @@ pub trait Pass: Sized + Send + Drop {
         requires { CanJoin (model self.old) (model child) }
         ensures { model self.new ≡ joined (model self.old) (model child) };
 
+    // Laws of every pass: what it holds and its room are together within the room at opening, that is a number of 32 bits,
+    // and no id has more words than one keep takes.
     ghost within: { (p : Self) → (model p).held + (model p).room ≤ (model p).most };
 
     ghost few: { (p : Self) → (model p).most < 2 ^ 32 };

@@ -1,14 +1,15 @@
-ghost use Rattle.std.specs.Prelude.{◌≡◌, OnOk};
-ghost use Rattle.cd_keep.specs.Shown.{opened};
+ghost use Rattle.std.specs.Prelude.{◌≡◌, ◌+◌, ◌*◌, ◌≤◌, IfOk, OnOk};
+ghost use Rattle.cd_keep.specs.PassModel.{PassModel, HoldsNothing, opened, child_of, without, joined};
 
 use crate::{ArcPass, GoneNote, KeepId, Pass};
+use cd_base::NoMemory;
 use std::process::Abort;
 use std::sync::Wait;
 use std::test::Fail;
 
 // Words that one pass kept and gave up are shared by another that was split off before, and which keeps words of its own.
 fn shares_what_was_given_up<R: Abort + Wait, P: Pass>(rt: &R, pass: &mut P) -> Result<(), Fail>
-    requires { P.shown pass.old ≡ opened 0 3 }
+    requires { P.model pass.old ≡ opened 0 3 }
 {
     let id = pass.keep(rt, [1, 2].as_slice())?;
     let mut child = pass.split(2)?;
@@ -29,7 +30,7 @@ fn holds_one_id_to_the_end_of_its_room<R: Abort + Wait, P: Pass>(
     rt: &R,
     pass: &mut P,
 ) -> Result<(), Fail>
-    requires { P.shown pass.old ≡ opened 0 2 }
+    requires { P.model pass.old ≡ opened 0 2 }
 {
     let id = pass.keep(rt, [7; 64].as_slice())?;
     let none = pass.split(0)?;
@@ -69,34 +70,118 @@ fn words_stay_for_those_that_have_seen_them(rt: HostRuntime) -> Result<(), Fail>
     Ok(())
 }
 
-// What a pass keeps, what two that are split off from it keep, and what it keeps again while they are away and once they
-// are back. Gives the five ids.
-fn family<R: Wait, P: Pass>(rt: &R, pass: &mut P) -> Result<[KeepId; 5], Fail>
-    requires { P.shown pass.old ≡ opened 0 6 }
+// A pass that is split off and comes back, whatever the pass held before.
+fn splits_and_takes_back<P: Pass>(pass: &mut P, room: u32) -> Result<(), NoMemory>
+    requires { room ≤ (P.model pass.old).room }
+    ensures { OnOk result (P.model pass.new ≡ joined (without (P.model pass.old) room) (child_of (P.model pass.old) room)) }
 {
-    let first = pass.keep(rt, [1].as_slice())?;
-    let mut one = pass.split(1)?;
-    let mut other = pass.split(1)?;
-    let second = pass.keep(rt, [2].as_slice())?;
-    let of_one = one.keep(rt, [3].as_slice())?;
-    let of_other = other.keep(rt, [4].as_slice())?;
-    one.give_up(of_one);
-    other.give_up(of_other);
-    pass.join(one);
-    pass.join(other);
-    let third = pass.keep(rt, [5].as_slice())?;
-    Ok([first, second, third, of_one, of_other])
+    let child = pass.split(room)?;
+    pass.join(child);
+    Ok(())
+}
+
+// Three holds below for each of its own, and room for as many: the numbers of a pass that keeps each piece three times.
+#[derive(Drop)]
+struct Threefold<P: Pass> {
+    below: P,
+    held: u32,
+    room: u32,
+    most: u32,
+    ghost held_thrice: { (P.model below).held ≡ 3 * held },
+    ghost room_thrice: { (P.model below).room ≡ 3 * room },
+    ghost most_thrice: { (P.model below).most ≡ 3 * most },
+}
+
+impl<P: Pass> Threefold<P> {
+    fn over(below: P, room: u32) -> Threefold<P>
+        requires { P.model below ≡ opened (P.model below).store (3 * room) }
+        ensures { (P.model result.below ≡ P.model below) × (result.held ≡ 0) × (result.room ≡ room) × (result.most ≡ room) }
+    {
+        Threefold {
+            below,
+            held: 0,
+            room,
+            most: room,
+        }
+    }
+
+    fn split(&mut self, room: u32) -> Result<Threefold<P>, NoMemory>
+        requires { room ≤ self.old.room }
+        ensures child { IfOk result (λ child. (P.model child.below ≡ child_of (P.model self.old.below) (3 * room)) × (child.room ≡ room) × (child.most ≡ self.old.most)) }
+        ensures rest { OnOk result (P.model self.new.below ≡ without (P.model self.old.below) (3 * room)) }
+    {
+        let below = self.below.split(3 * room)?;
+        self.room -= room;
+        Ok(Threefold {
+            below,
+            held: 0,
+            room,
+            most: self.most,
+        })
+    }
+
+    fn join(&mut self, child: Threefold<P>)
+        requires store { (P.model child.below).store ≡ (P.model self.old.below).store }
+        requires most { child.most ≡ self.old.most }
+        requires nothing { HoldsNothing (P.model child.below) }
+        requires few { self.old.held + self.old.room + child.room ≤ self.old.most }
+        ensures { P.model self.new.below ≡ joined (P.model self.old.below) (P.model child.below) }
+    {
+        self.below.join(child.below);
+        self.room += child.room;
+    }
 }
 
 #[test]
-fn a_family_of_passes_keeps_under_different_ids(rt: HostRuntime) -> Result<(), Fail> {
-    let mut pass = ArcPass::open(rt.alloc(), 6)?;
-    let ids = family(&rt, &mut pass)?;
-    for i in 0..ids.len() {
-        for j in 0..i {
-            assert_ne!(rt; ids[i], ids[j], "ids {i} and {j}");
-        }
-    }
+fn a_third_of_the_room_is_split_off_and_taken_back(rt: HostRuntime) -> Result<(), Fail> {
+    let mut pass = Threefold::over(ArcPass::open(rt.alloc(), 9)?, 3);
+    let child = pass.split(2)?;
+    assert_eq!(rt; pass.room, 1);
+    pass.join(child);
+    assert_eq!(rt; pass.room, 3);
+    splits_and_takes_back(&mut pass.below, 9)?;
+    Ok(())
+}
+
+// Relatives keep under one id: a pass, one that was split off from it, and one that was split off from that.
+fn relatives<R: Wait, P: Pass>(rt: &R, pass: &mut P) -> Result<[(KeepId, u64); 3], Fail>
+    requires { P.model pass.old ≡ opened 0 4 }
+{
+    let first = pass.keep(rt, [1].as_slice())?;
+    let mut child = pass.split(2)?;
+    let mut grandchild = child.split(1)?;
+    let id = pass.keep(rt, [2].as_slice())?;
+    let word = pass.word(id, 0);
+    let of_child = child.keep(rt, [3].as_slice())?;
+    let word_of_child = child.word(of_child, 0);
+    let of_grandchild = grandchild.keep(rt, [4].as_slice())?;
+    let word_of_grandchild = grandchild.word(of_grandchild, 0);
+    pass.give_up(first);
+    Ok([
+        (id, word),
+        (of_child, word_of_child),
+        (of_grandchild, word_of_grandchild),
+    ])
+}
+
+#[test]
+fn relatives_keep_different_words_under_one_id(rt: HostRuntime) -> Result<(), Fail> {
+    let mut pass = ArcPass::open(rt.alloc(), 4)?;
+    let [first, second, third] = relatives(&rt, &mut pass)?;
+    assert_eq!(rt; [first.1, second.1, third.1], [2, 3, 4]);
+    assert_eq!(rt; first.0, second.0);
+    assert_eq!(rt; first.0, third.0);
+    Ok(())
+}
+
+// All words of an id at once.
+#[test]
+fn words_are_fetched_at_once(rt: HostRuntime) -> Result<(), Fail> {
+    let mut pass = ArcPass::open(rt.alloc(), 2)?;
+    let id = pass.keep_at_once([1, 2, 3].as_slice())?;
+    let mut words = [0; 3];
+    pass.fetch(id, words.as_mut_slice());
+    assert_eq!(rt; words, [1, 2, 3]);
     Ok(())
 }
 
