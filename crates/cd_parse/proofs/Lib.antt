@@ -29,4 +29,5 @@ mod WorkedSteps
 mod WorkedChoices
 pub mod UnrolledLemmas
 pub mod TurnLemmas
+pub mod RoomLemmas
 pub mod DraftLemmas

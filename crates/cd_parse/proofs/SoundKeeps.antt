@@ -20,13 +20,13 @@ pub record IsKept (P : DraftModel → Type 0) : Type 0 where
   pub statement : (variables : List Variable) (words : List (List ℕ)) (draft next : DraftModel) → P draft
       → statement_in variables words draft ≡ Ok next → P next
 
-counted_keeps : (P : DraftModel → Type 0) → IsKept P → (draft next : DraftModel) → P draft → counted draft ≡ Ok next → P next
+pub counted_keeps : (P : DraftModel → Type 0) → IsKept P → (draft next : DraftModel) → P draft → counted draft ≡ Ok next → P next
 counted_keeps P kept draft next holds is =
     let made : DraftModel = record draft { lines = draft.lines + 1 } in
     let parts = if_else_err DraftModel Refusal (nat_lt draft.lines 65536) (Ok made) (refusal.Limit Lines 65537) next is in
     subst P (same_ok DraftModel Refusal made next parts.1) (kept.count draft (draft.lines + 1) holds)
 
-taken_keeps : (P : DraftModel → Type 0) → IsKept P → (variables : List Variable) (line : Line) (draft next : DraftModel) → P draft
+pub taken_keeps : (P : DraftModel → Type 0) → IsKept P → (variables : List Variable) (line : Line) (draft next : DraftModel) → P draft
     → taken variables line draft ≡ Ok next → P next
 unfolding taken
 taken_keeps P kept variables line draft next holds is =
@@ -36,7 +36,7 @@ taken_keeps P kept variables line draft next holds is =
     (at_line_ok DraftModel line.number (statement_in variables line.words parts.value) next parts.next)
 
 -- what each turn of a loop does keeps the property
-abbrev Keeps : (DraftModel → Type 0) → (List Variable → DraftModel → Result DraftModel Refusal) → Type 0
+abbrev pub Keeps : (DraftModel → Type 0) → (List Variable → DraftModel → Result DraftModel Refusal) → Type 0
 Keeps P body = (variables : List Variable) (draft next : DraftModel) → P draft → body variables draft ≡ Ok next → P next
 
 turns_keep : (P : DraftModel → Type 0) → IsKept P → (body : List Variable → DraftModel → Result DraftModel Refusal) → Keeps P body → (variables : List Variable)
@@ -50,7 +50,7 @@ turns_keep P kept body keeps variables name value (suc more) draft next holds is
     turns_keep P kept body keeps variables name (value + 1) more parts.value next
     (keeps (variables ++ variable_of name value ∷ []) first.value parts.value (counted_keeps P kept draft first.value holds first.is) first.next) parts.next
 
-looped_keeps : (P : DraftModel → Type 0) → IsKept P → (body : List Variable → DraftModel → Result DraftModel Refusal) → Keeps P body → (variables : List Variable)
+pub looped_keeps : (P : DraftModel → Type 0) → IsKept P → (body : List Variable → DraftModel → Result DraftModel Refusal) → Keeps P body → (variables : List Variable)
     (line : Line) (draft next : DraftModel) → P draft → looped body variables line draft ≡ Ok next → P next
 unfolding looped
 looped_keeps P kept body keeps variables line draft next holds is =

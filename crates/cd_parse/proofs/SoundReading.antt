@@ -59,7 +59,7 @@ sound_is_tree draft is ends =
 
 -- ---- the whole text
 
-sound_is_kept : IsKept IsSound
+pub sound_is_kept : IsKept IsSound
 sound_is_kept = record { count = counted_is_sound; statement = statement_keeps_sound }
 
 named_is_kept : IsKept Named

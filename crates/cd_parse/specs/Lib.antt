@@ -1,5 +1,6 @@
 pub mod Draft
 pub mod Sound
+pub mod Rooms
 pub mod Ranges
 pub mod Heads
 pub mod Operations

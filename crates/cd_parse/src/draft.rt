@@ -1,8 +1,10 @@
-ghost use Rattle.std.specs.Prelude.{◌≡◌, ◌++◌, ◌∷◌, [], OnOk, slice_get, Some};
+//! The draft of a document, and the changes that statements make to it.
+ghost use Rattle.std.specs.Prelude.{◌≡◌, ◌+◌, ◌<◌, ◌^◌, ◌++◌, ◌∷◌, [], length, OnOk, Ok, slice_get, Some};
 ghost use Rattle.cd_words.specs.Steps.{Reads, Steps};
 ghost use Rattle.cd_parse.specs.Draft.{no_draft, is_start, takes_kinds, takes_regions, is_closed, takes_strikes, may_end, is_open, takes_items, is_empty_body, takes_entries, takes_domains, innermost, parent_of, changed, with_item, with_entry, add_item, add_entry, named, entered, add_domain, open_group};
 ghost use Rattle.cd_parse.specs.Heads.{entries_of, room_in, room_for_domain, ended_in, ended};
 ghost use Rattle.cd_parse.specs.Reading.{counted};
+ghost use Rattle.cd_parse.specs.Rooms.{HaveRoom};
 
 use cd_base::{Items, NoMemory};
 use cd_tree::{
@@ -218,31 +220,25 @@ impl Draft {
 
     /// One item more in domain `at`.
     pub(crate) fn add_item(&mut self, at: u32, item: Item) -> Result<(), NoMemory>
+        requires room { HaveRoom self.old.domains }
+        requires count { self.old.items + 1 < 2 ^ 32 }
         ensures { OnOk result (self.new ≡ add_item at item self.old) }
     {
         push_item(&mut self.domains, at, item)?;
-        self.items = self.items.checked_add(1).ok_or(NoMemory)?;
+        self.items += 1;
         Ok(())
     }
 
     /// One entry more in domain `at`.
     pub(crate) fn add_entry(&mut self, at: u32, entry: Entry) -> Result<(), NoMemory>
+        requires room { entries_of (slice_get self.old.domains at) + 1 < 2 ^ 32 }
+        requires count { self.old.preserves + 1 < 2 ^ 32 }
         ensures { OnOk result (self.new ≡ add_entry at entry self.old) }
     {
         push_entry(&mut self.domains, at, entry)?;
-        self.preserves = self.preserves.checked_add(1).ok_or(NoMemory)?;
+        self.preserves += 1;
         Ok(())
     }
-}
-
-/// An item more, last.
-pub(crate) fn push_last<T: Drop>(items: &mut Items<T>, item: T) -> Result<(), NoMemory>
-    ensures { OnOk result (items.new ≡ items.old ++ item ∷ []) }
-{
-    if items.items().len() >= 4_294_967_294 {
-        return Err(NoMemory);
-    }
-    items.push(item)
 }
 
 // ---- domains and groups that open and close
@@ -260,6 +256,7 @@ impl Draft {
 
     /// A group opens in the innermost domain.
     pub(crate) fn open_group(&mut self, alloc: Global) -> Result<(), NoMemory>
+        requires { self.old.items + 1 < 2 ^ 32 }
         ensures { OnOk result (self.new ≡ open_group self.old.levels self.old) }
     {
         match self.levels.pop() {
@@ -269,7 +266,7 @@ impl Draft {
                     domain: level.domain,
                     group: Some(Items::new(alloc)),
                 })?;
-                self.items = self.items.checked_add(1).ok_or(NoMemory)?;
+                self.items += 1;
                 Ok(())
             }
         }
@@ -277,6 +274,7 @@ impl Draft {
 
     /// The innermost group or domain closes.
     pub(crate) fn close(&mut self) -> Result<(), Stop>
+        requires { HaveRoom self.old.domains }
         ensures { Steps self.new result (ended self.old.levels self.old) }
     {
         match self.levels.pop() {
@@ -305,6 +303,7 @@ impl Draft {
 
     // The group with these members closes, whose domain was taken off the levels.
     fn close_group(&mut self, domain: u32, members: Items<NodeId>) -> Result<(), Stop>
+        requires { HaveRoom self.old.domains }
         ensures { Steps self.new result (ended_in (Some members) domain self.old.levels self.old) }
     {
         if members.items().is_empty() {
@@ -320,14 +319,14 @@ impl Draft {
 
     /// One domain more, which is open.
     pub(crate) fn add_domain(&mut self, alloc: Global, domain: Domain) -> Result<(), NoMemory>
+        requires count { length self.old.domains < 2 ^ 32 }
+        requires items { HaveRoom self.old.domains }
+        requires place { room_for_domain self.old.levels self.old.items ≡ Ok tt }
         ensures { OnOk result (self.new ≡ add_domain domain self.old) }
     {
-        let at = self.domains.len();
-        if at >= 4_294_967_296 {
-            return Err(NoMemory);
-        }
-        self.name_in_parent(alloc, NodeId(at as u32))?;
-        self.enter(at as u32, domain)
+        let at = self.domains.len() as u32;
+        self.name_in_parent(alloc, NodeId(at))?;
+        self.enter(at, domain)
     }
 
     fn enter(&mut self, at: u32, domain: Domain) -> Result<(), NoMemory>
@@ -344,6 +343,8 @@ impl Draft {
 
     // The parent names a domain, as a group of its own or as a member of the group that is open there.
     fn name_in_parent(&mut self, alloc: Global, id: NodeId) -> Result<(), NoMemory>
+        requires items { HaveRoom self.old.domains }
+        requires place { room_for_domain self.old.levels self.old.items ≡ Ok tt }
         ensures { OnOk result (self.new ≡ named self.old.levels id self.old) }
     {
         match self.levels.pop() {
@@ -368,7 +369,7 @@ impl Draft {
                     group: Some(mut members),
                 },
             ) => {
-                push_last(&mut members, id)?;
+                members.push(id)?;
                 self.levels.push(Level {
                     domain,
                     group: Some(members),
@@ -390,14 +391,12 @@ fn room_in(group: &Option<Items<NodeId>>, items: u32) -> Result<(), Wrong>
 
 // One item more in domain `at`, where there is one.
 fn push_item(domains: &mut Vec<Domain>, at: u32, item: Item) -> Result<(), NoMemory>
+    requires { HaveRoom domains.old.items }
     ensures { OnOk result (domains.new.items ≡ changed at (with_item item) domains.old.items) }
 {
     let at = at as usize;
     if at >= domains.len() {
         return Ok(());
-    }
-    if domains[at].items.items().len() >= 4_294_967_294 {
-        return Err(NoMemory);
     }
     domains[at].items.push(item)?;
     Ok(())
@@ -405,14 +404,12 @@ fn push_item(domains: &mut Vec<Domain>, at: u32, item: Item) -> Result<(), NoMem
 
 // One entry more in domain `at`, where there is one.
 fn push_entry(domains: &mut Vec<Domain>, at: u32, entry: Entry) -> Result<(), NoMemory>
+    requires { entries_of (slice_get domains.old.items at) + 1 < 2 ^ 32 }
     ensures { OnOk result (domains.new.items ≡ changed at (with_entry entry) domains.old.items) }
 {
     let at = at as usize;
     if at >= domains.len() {
         return Ok(());
-    }
-    if domains[at].entries.items().len() >= 4_294_967_294 {
-        return Err(NoMemory);
     }
     domains[at].entries.push(entry)?;
     Ok(())

@@ -1,4 +1,5 @@
-ghost use Rattle.std.specs.Prelude.{◌≡◌, ◌+◌, ◌++◌, ◌∷◌, [], ◌&&◌, IfOk, OnOk, IsTrue, Err, true, false, bytes_eq, codes, if◌then◌else◌};
+//! The statements, by the words behind their first.
+ghost use Rattle.std.specs.Prelude.{◌≡◌, ◌+◌, ◌<◌, ◌^◌, ◌++◌, ◌∷◌, [], ◌&&◌, length, IfOk, OnOk, IsTrue, Ok, Err, true, false, bytes_eq, codes, if◌then◌else◌};
 ghost use Rattle.cd_words.specs.declared.wrong.Wrong.TheVariants.{Form};
 ghost use Rattle.cd_words.specs.Sums.{is_base};
 ghost use Rattle.cd_parse.specs.declared.draft.Stage.TheVariants.{Regions};
@@ -6,9 +7,10 @@ ghost use Rattle.cd_parse.specs.Statements.{with_op, operation_in};
 ghost use Rattle.cd_words.specs.Steps.{Steps};
 ghost use Rattle.cd_parse.specs.Draft.{four_kinds, kind_name, has_kind_named, has_region_named, is_parent, has_child_named, add_domain};
 ghost use Rattle.cd_words.specs.Wrongs.{both};
-ghost use Rattle.cd_parse.specs.Heads.{name_fits, begun, cd_in, short_how, long_how, how_in, with_entry_of, preserve_in, faults_in, is_kind_name, with_kind_named, kind_in, words_fit, region_of, with_region, regioned, region_statement, time_in, damage_in, with_fault, struck, strike_in, group_in, end_in, has_domain_form, retry_fits, domain_named, with_domain, domained, domain_in};
+ghost use Rattle.cd_parse.specs.Rooms.{HaveRoom};
+ghost use Rattle.cd_parse.specs.Heads.{name_fits, begun, cd_in, short_how, long_how, how_in, with_entry_of, preserve_in, faults_in, is_kind_name, with_kind_named, kind_in, room_for_domain, words_fit, region_of, with_region, regioned, region_statement, time_in, damage_in, with_fault, struck, strike_in, group_in, end_in, has_domain_form, retry_fits, domain_named, with_domain, domained, domain_in};
 
-use crate::draft::{Draft, Stage, push_last};
+use crate::draft::{Draft, Stage};
 use crate::operations::{fits, op_in};
 use crate::ranges::{place_in, range_in};
 use cd_base::{Bytes, Items, NoMemory, Pattern, Place, Range, Text};
@@ -236,7 +238,7 @@ fn add_kind(alloc: Global, draft: &mut Draft, word: &[u8], halts: bool) -> Resul
     let count = room(Which::Kinds, limits::MOST_KINDS, draft.kinds.items().len());
     all_hold(&[free, name_fits(word), count])?;
     let name = text_of(alloc, word)?;
-    push_last(&mut draft.kinds, KindName { name, halts })?;
+    draft.kinds.push(KindName { name, halts })?;
     Ok(())
 }
 
@@ -316,18 +318,17 @@ fn add_region(draft: &mut Draft, named: Text, size: u64, pattern: Pattern) -> Re
 }
 
 fn put_region(draft: &mut Draft, named: Text, size: u64, pattern: Pattern) -> Result<(), NoMemory>
+    requires count { length draft.old.regions + 1 < 2 ^ 32 }
+    requires words { draft.old.words + size < 2 ^ 32 }
     ensures { OnOk result (draft.new ≡ record draft.old { stage = Regions; regions = draft.old.regions ++ region_of named size pattern ∷ []; words = draft.old.words + size }) }
 {
-    if size >= 4_294_967_296 {
-        return Err(NoMemory);
-    }
-    draft.words = draft.words.checked_add(size).ok_or(NoMemory)?;
+    draft.words += size;
     let region = Region {
         name: named,
         length: size as u32,
         pattern,
     };
-    push_last(&mut draft.regions, region)?;
+    draft.regions.push(region)?;
     draft.stage = Stage::Regions;
     Ok(())
 }
@@ -420,7 +421,7 @@ fn add_fault(draft: &mut Draft, fault: RawFault) -> Result<(), Stop>
         limits::MOST_FAULTS,
         draft.faults.items().len(),
     )?;
-    push_last(&mut draft.faults, fault)?;
+    draft.faults.push(fault)?;
     Ok(())
 }
 
@@ -428,6 +429,7 @@ fn add_fault(draft: &mut Draft, fault: RawFault) -> Result<(), Stop>
 
 #[tactic(auto, unfolding(crate::specs::Statements::with_op))]
 fn add_op(draft: &mut Draft, op: Op) -> Result<(), Stop>
+    requires { HaveRoom draft.old.domains }
     ensures { Steps draft.new result (with_op draft.old op) }
 {
     let fit = guard(fits(&op), Wrong::Unfit);
@@ -446,6 +448,7 @@ pub(crate) fn operation(
     keyword: &[u8],
     rest: &[Bytes],
 ) -> Result<(), Stop>
+    requires { HaveRoom draft.old.domains }
     ensures { Steps draft.new result (operation_in variables.now draft.old keyword.now rest.now) }
 {
     let stage = guard(draft.takes_items(), Wrong::Form);
@@ -476,6 +479,7 @@ pub(crate) fn group(alloc: Global, draft: &mut Draft, words: &[Bytes]) -> Result
 // end
 #[tactic(auto, unfolding(crate::specs::Heads::end_in))]
 pub(crate) fn end(draft: &mut Draft, words: &[Bytes]) -> Result<(), Stop>
+    requires { HaveRoom draft.old.domains }
     ensures { Steps draft.new result (end_in draft.old words.now) }
 {
     match words {
@@ -524,6 +528,7 @@ pub(crate) fn domain(
     draft: &mut Draft,
     words: &[Bytes],
 ) -> Result<(), Stop>
+    requires { HaveRoom draft.old.domains }
     ensures { Steps draft.new result (domain_in variables.now draft.old words.now) }
 {
     match words {
@@ -549,6 +554,7 @@ fn domain_of(
     tries: Result<u64, Wrong>,
     kinds: Result<Kinds, Wrong>,
 ) -> Result<(), Stop>
+    requires { HaveRoom draft.old.domains }
     ensures { Steps draft.new result (domained draft.old form named tries kinds) }
 {
     let parts = three(named, tries, kinds);
@@ -573,6 +579,7 @@ fn add_domain(
     tries: u64,
     kinds: Kinds,
 ) -> Result<(), Stop>
+    requires { HaveRoom draft.old.domains }
     ensures { Steps draft.new result (with_domain draft.old named tries kinds) }
 {
     let word = named.as_str().as_bytes();
@@ -602,11 +609,12 @@ fn put_domain(
     tries: u64,
     kinds: Kinds,
 ) -> Result<(), NoMemory>
+    requires tries { tries < 2 ^ 32 }
+    requires count { length draft.old.domains < 2 ^ 32 }
+    requires items { HaveRoom draft.old.domains }
+    requires place { room_for_domain draft.old.levels draft.old.items ≡ Ok tt }
     ensures { OnOk result (draft.new ≡ add_domain (domain_named named parent tries kinds) draft.old) }
 {
-    if tries >= 4_294_967_296 {
-        return Err(NoMemory);
-    }
     let domain = Domain {
         name: named,
         parent,

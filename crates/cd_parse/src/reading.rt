@@ -1,9 +1,11 @@
+//! The reading of a text: its statements and the turns of its loops, in order.
 ghost use Rattle.std.specs.Prelude.{◌≡◌, ◌+◌, ◌<◌, ◌≤◌, ◌&&◌, length, IfOk, OnOk, codes, bytes_eq};
 ghost use Rattle.cd_tree.specs.Limits.{text_limit};
 ghost use Rattle.cd_words.specs.Steps.{Reads, Answers};
 ghost use Rattle.cd_words.specs.Layouts.{IsTable};
 ghost use Rattle.cd_words.specs.Sums.{is_base};
 ghost use Rattle.cd_parse.specs.Reading.{taken, looped, all_turns, is_variable, loop_limits, bounds_part, loop_bounds, ended, draft_of};
+ghost use Rattle.cd_parse.specs.Sound.{IsSound};
 ghost use Rattle.cd_parse.specs.Turns.{read_from, turn_from, loop_as, ReadsLoop, ReadsTurn};
 
 use crate::draft::Draft;
@@ -24,6 +26,7 @@ struct Header<'a> {
 // A statement, at its line.
 #[tactic(auto, unfolding(crate::specs::Reading::taken))]
 fn take(alloc: Global, line: &Line, variables: &[Variable], draft: &mut Draft) -> Result<(), Refuse>
+    requires { IsSound draft.old }
     ensures { Reads draft.new result (taken variables.now line.now draft.old) }
 {
     if let Err(refuse) = draft.count() {
@@ -124,6 +127,7 @@ fn block(
 ) -> Result<(), Refuse>
     requires table { IsTable lines.now after.now 0 }
     requires from { from ≤ length lines.now }
+    requires sound { IsSound draft.old }
     ensures exact { Reads draft.new result (read_from lines.now from variables.old.items draft.old) }
     ensures same { OnOk result (variables.new.items ≡ variables.old.items) }
 {
@@ -163,6 +167,7 @@ fn repeat(
 ) -> Result<(), Refuse>
     requires table { IsTable lines.now after.now 0 }
     requires at { at < length lines.now }
+    requires sound { IsSound draft.old }
     ensures exact { Reads draft.new result (looped (read_from lines.now (at + 1)) variables.old.items line.now draft.old) }
     ensures same { OnOk result (variables.new.items ≡ variables.old.items) }
 {
@@ -185,6 +190,7 @@ fn all_turns(
 ) -> Result<(), Refuse>
     requires table { IsTable lines.now after.now 0 }
     requires from { from ≤ length lines.now }
+    requires sound { IsSound draft.old }
     ensures exact { Reads draft.new result (all_turns (read_from lines.now from) variables.old.items (loop_as header.entry) draft.old) }
     ensures same { OnOk result (variables.new.items ≡ variables.old.items) }
 {
@@ -218,6 +224,7 @@ fn turn(
 ) -> Result<Bytes, Refuse>
     requires table { IsTable lines.now after.now 0 }
     requires from { from ≤ length lines.now }
+    requires sound { IsSound draft.old }
     ensures exact { ReadsTurn draft.new name result (turn_from lines.now from variables.old.items name value draft.old) }
     ensures same { OnOk result (variables.new.items ≡ variables.old.items) }
 {
@@ -230,10 +237,9 @@ fn turn(
     if let Err(refuse) = block(alloc, lines, after, from, variables, draft) {
         return Err(refuse);
     }
-    match variables.pop() {
-        Some(variable) => Ok(variable.name),
-        None => Err(Refuse::NoMemory),
-    }
+    let last: Option<Variable> = variables.pop();
+    let variable = last.unwrap();
+    Ok(variable.name)
 }
 
 /// What a text has said at its end, or why it is no document.

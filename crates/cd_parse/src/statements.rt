@@ -1,5 +1,7 @@
+//! A statement by its first word.
 ghost use Rattle.std.specs.Prelude.{◌≡◌};
 ghost use Rattle.cd_words.specs.Steps.{Steps};
+ghost use Rattle.cd_parse.specs.Rooms.{HaveRoom};
 ghost use Rattle.cd_parse.specs.Statements.{statement, statement_in};
 
 use crate::draft::Draft;
@@ -18,6 +20,7 @@ pub(crate) fn statement(
     words: &[Bytes],
     draft: &mut Draft,
 ) -> Result<(), Stop>
+    requires { HaveRoom draft.old.domains }
     ensures { Steps draft.new result (statement_in variables.now words.now draft.old) }
 {
     match words {
@@ -35,6 +38,7 @@ fn by_keyword(
     keyword: &[u8],
     rest: &[Bytes],
 ) -> Result<(), Stop>
+    requires { HaveRoom draft.old.domains }
     ensures { Steps draft.new result (statement variables.now draft.old keyword.now rest.now) }
 {
     if keyword == b"cd".as_slice() {

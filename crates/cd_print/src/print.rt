@@ -1,4 +1,4 @@
-ghost use Rattle.std.specs.Prelude.{◌≡◌, ◌≤◌, ◌++◌, length, map, IfOk, OnOk, string_bytes};
+ghost use Rattle.std.specs.Prelude.{◌≡◌, ◌++◌, length, map, IfOk, OnOk, string_bytes};
 ghost use Rattle.cd_base.specs.Ends.{WriteAll};
 ghost use Rattle.cd_tree.specs.TreeModel.{TreeModel};
 ghost use Rattle.cd_tree.specs.Domains.{root_of};
@@ -17,8 +17,7 @@ pub fn print_document<K: Sink>(
     document: &Document,
     sink: &mut K,
 ) -> Result<(), WriteStop>
-    ensures meets { WriteAll (K.holds sink.old) (K.holds sink.new) (K.faults sink.old) (K.faults sink.new) (canonical document.now) result }
-    ensures count { K.faults sink.old ≤ K.faults sink.new }
+    ensures { WriteAll (K.model sink.old) (K.model sink.new) (canonical document.now) result }
 {
     match canonical_text(alloc, document) {
         Ok(text) => write_all(sink, text.as_bytes()),

@@ -1,6 +1,7 @@
 use Rattle.std.proofs.Common.{ℕ, List, sym, ap, ◌∙◌, arith, ◌+◌, ◌-◌}
 use Rattle.cd_parse.specs.Reading.{turns}
 use Rattle.cd_parse.specs.Turns.{read_from}
+use Rattle.cd_parse.proofs.RoomLemmas.{taken_sound, looped_sound, turn_sound}
 use Rattle.cd_parse.proofs.TurnLemmas.{from_closes, from_end, says_made, says_refused, opens_made, opens_refused, no_turns, turn_made, turn_refused}
 use Rattle.cd_parse.proofs.reading.+reading.Goals as goal
 
@@ -21,6 +22,7 @@ block-loop-at-preserved-in-Says t c = record {
   left = says_made c.args.lines.now c.loop-at.at c.index-lines-at.result c.loop-at.variables.items c.as_slice.result.now c.loop-at.draft c.take.new.draft
       _ c.loop-at-test.true c.index-lines-at.is c.in-Says.is c.as_slice.ensures.value c.loop-at.invariant.left c.in_default.ensures;
   same = c.loop-at.invariant.same;
+  sound = taken_sound c.as_slice.result.now c.index-lines-at.result c.loop-at.draft c.take.new.draft c.loop-at.invariant.sound c.in_default.ensures;
 }
 
 pub block-returns-in-Err-repeat-clause-exact : goal.block-returns-in-Err-repeat-clause-exact
@@ -38,6 +40,8 @@ block-loop-at-preserved t c =
       left = rw c.in_default-repeat.ensures.same (opens_made c.args.lines.now c.loop-at.at _ c.index-lines-at.result c.loop-at.variables.items c.loop-at.draft c.repeat.new.draft
           _ c.loop-at-test.true c.index-lines-at.is c.in-Opens.is g c.loop-at.invariant.left c.in_default-repeat.ensures.exact);
       same = c.in_default-repeat.ensures.same ∙ c.loop-at.invariant.same;
+      sound = looped_sound c.args.lines.now (c.loop-at.at + 1) c.loop-at.variables.items c.index-lines-at.result c.loop-at.draft c.repeat.new.draft
+          c.loop-at.invariant.sound c.in_default-repeat.ensures.exact;
     }
 
 pub block-returns-clause-exact : goal.block-returns-clause-exact
@@ -62,6 +66,8 @@ all_turns-loop-value-preserved t c = record {
       c.loop-value.draft c.turn.new.draft _ c.loop-value-test.true c.loop-value.invariant.left c.in-Ok-turn.ensures.exact.0);
   same = c.in-Ok-turn.ensures.same ∙ c.loop-value.invariant.same;
   name = c.in-Ok-turn.ensures.exact.1 ∙ c.loop-value.invariant.name;
+  sound = turn_sound c.args.lines.now c.args.from c.loop-value.variables.items c.loop-value.name c.loop-value.value c.loop-value.draft c.turn.new.draft
+      c.loop-value.invariant.sound c.in-Ok-turn.ensures.exact.0;
 }
 
 pub all_turns-returns-clause-exact : goal.all_turns-returns-clause-exact

@@ -1,5 +1,6 @@
 use Rattle.std.proofs.Common.{◌≡◌, ◌≤◌, ◌+◌, ◌*◌, ◌-◌, length}
 use Rattle.cd_parse.specs.Reading.{turns}
+use Rattle.cd_parse.specs.Sound.{IsSound}
 use Rattle.cd_parse.specs.Turns.{read_from}
 use Rattle.cd_parse.proofs.reading.+reading.Given as goal
 
@@ -21,6 +22,7 @@ invariant-block-loop-at l = record {
   later : l.fn.from ≤ l.at;
   left : read_from l.lines l.at l.variables.items l.draft ≡ read_from l.lines l.fn.from l.fn.variables.items l.fn.draft;
   same : l.variables.items ≡ l.fn.variables.items;
+  sound : IsSound l.draft;
 }
 
 abbrev pub decreases-block-loop-at : goal.decreases-block-loop-at
@@ -32,4 +34,5 @@ invariant-all_turns-loop-value l = record {
       ≡ turns (read_from l.lines l.from) l.fn.variables.items l.initial.name l.initial.value (l.initial.value-end - l.initial.value) l.fn.draft;
   same : l.variables.items ≡ l.fn.variables.items;
   name : l.name ≡ l.initial.name;
+  sound : IsSound l.draft;
 }

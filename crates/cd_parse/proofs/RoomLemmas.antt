@@ -1,0 +1,81 @@
+-- The room that a statement has where its tests hold, and that reading keeps a draft sound.
+use Rattle.std.proofs.Common.{◌≡◌, ℕ, zero, suc, ◌+◌, ◌-◌, ◌^◌, ◌<◌, ◌≤◌, ◌&&◌, nat_lt, nat_le, List, [], ◌∷◌, ◌++◌, Some, Ok, Result, length, get_or, slice_get, sum_by, refl, sym, ap, ◌∙◌, subst, arith, leb-true}
+use Rattle.std.proofs.lemmas.Bool.{and_parts}
+use Rattle.std.proofs.lemmas.List.Sums.{get_or-le-sum_by}
+use Rattle.cd_tree.specs.declared.refusal.Refusal.{Refusal}
+use Rattle.cd_tree.specs.declared.refusal.Which.{Which}
+use Rattle.cd_tree.specs.declared.refusal.Which.TheVariants as which
+use Rattle.cd_words.specs.declared.lines.Line.{Line}
+use Rattle.cd_words.specs.declared.sums.Variable.{Variable}
+use Rattle.cd_words.specs.declared.wrong.Wrong.{Wrong}
+use Rattle.cd_words.specs.declared.wrong.Wrong.TheVariants.{Limit}
+use Rattle.cd_words.specs.Wrongs.{guard, room, all_hold, ◌>>=◌}
+use Rattle.cd_parse.specs.Draft.{DraftModel}
+use Rattle.cd_parse.specs.Heads.{words_fit, retry_fits}
+use Rattle.cd_parse.specs.Reading.{counted, taken, looped, variable_of}
+use Rattle.cd_parse.specs.Turns.{read_from, turn_from}
+use Rattle.cd_parse.specs.Sound.{open_groups, IsSound}
+use Rattle.cd_parse.specs.Rooms.{HaveRoom}
+use Rattle.cd_parse.proofs.SoundChanges.{items_in}
+use Rattle.cd_parse.proofs.SoundGuards.{Bound, bound, guard_ok, room_ok, hold_ok}
+use Rattle.cd_parse.proofs.SoundKeeps.{counted_keeps, taken_keeps, looped_keeps, read_keeps}
+use Rattle.cd_parse.proofs.SoundReading.{sound_is_kept}
+
+-- ---- a sound draft
+
+-- each of its domains may have an item more
+pub have_room : (draft : DraftModel) → IsSound draft → HaveRoom draft.domains
+have_room draft is k none within =
+    let items : sum_by items_in draft.domains + open_groups draft.levels ≡ draft.items = is.items in
+    let few : draft.items ≤ 16384 = is.few_items in
+    omega (arith, items, few, get_or-le-sum_by items_in draft.domains k none within)
+
+-- ---- tests that hold
+
+-- the test at place k
+pub holds_at : (k : ℕ) (tests : List (Result (Unit {0}) Wrong)) (test : Result (Unit {0}) Wrong) → slice_get tests k ≡ Some test
+    → all_hold tests ≡ Ok tt → test ≡ Ok tt
+holds_at k [] test there all = absurd (cc)
+holds_at zero (first ∷ tests) test there all = let same : first ≡ test = cc in sym same ∙ (hold_ok first tests tt all).0
+holds_at (suc k) (first ∷ tests) test there all = holds_at k tests test there (hold_ok first tests tt all).1
+
+-- a test of room
+pub room_held : (k : ℕ) (tests : List (Result (Unit {0}) Wrong)) (test : Result (Unit {0}) Wrong) (limit : Which) (most count : ℕ)
+    → slice_get tests k ≡ Some test → test ≡ room limit most count → all_hold tests ≡ Ok tt → count < most
+room_held k tests test limit most count there is all = room_ok limit most count tt (sym is ∙ holds_at k tests test there all)
+
+-- the test of a region's words
+pub words_held : (k : ℕ) (tests : List (Result (Unit {0}) Wrong)) (test : Result (Unit {0}) Wrong) (sum : ℕ) → slice_get tests k ≡ Some test
+    → test ≡ words_fit sum → all_hold tests ≡ Ok tt → sum ≤ 1048576
+words_held k tests test sum there is all =
+    leb-true sum 1048576 (guard_ok (nat_le sum 1048576) _ tt (sym is ∙ holds_at k tests test there all))
+
+-- the test of a domain's tries
+pub retry_held : (k : ℕ) (tests : List (Result (Unit {0}) Wrong)) (test : Result (Unit {0}) Wrong) (tries : ℕ) → slice_get tests k ≡ Some test
+    → test ≡ retry_fits tries → all_hold tests ≡ Ok tt → tries ≤ 100
+retry_held k tests test tries there is all =
+    leb-true tries 100
+    (and_parts (nat_lt 0 tries) (nat_le tries 100)
+    (guard_ok (nat_lt 0 tries && nat_le tries 100) (Limit which.Retry tries) tt (sym is ∙ holds_at k tests test there all))).1
+
+-- ---- reading
+
+-- what a statement, a loop and a turn leave is sound
+pub taken_sound : (variables : List Variable) (line : Line) (draft next : DraftModel) → IsSound draft → taken variables line draft ≡ Ok next → IsSound next
+taken_sound variables line draft next sound is = taken_keeps IsSound sound_is_kept variables line draft next sound is
+
+pub looped_sound : (lines : List Line) (from : ℕ) (variables : List Variable) (line : Line) (draft next : DraftModel) → IsSound draft
+    → looped (read_from lines from) variables line draft ≡ Ok next → IsSound next
+looped_sound lines from variables line draft next sound is =
+    looped_keeps IsSound sound_is_kept (read_from lines from) (read_keeps IsSound sound_is_kept _) variables line draft next sound is
+
+pub counted_sound : (draft next : DraftModel) → IsSound draft → counted draft ≡ Ok next → IsSound next
+counted_sound draft next sound is = counted_keeps IsSound sound_is_kept draft next sound is
+
+pub turn_sound : (lines : List Line) (from : ℕ) (variables : List Variable) (name : List ℕ) (value : ℕ) (draft next : DraftModel) → IsSound draft
+    → turn_from lines from variables name value draft ≡ Ok next → IsSound next
+turn_sound lines from variables name value draft next sound is =
+    let body : DraftModel → Result DraftModel Refusal = read_from lines from (variables ++ variable_of name value ∷ []) in
+    let first : Bound DraftModel DraftModel Refusal (counted draft) body next = bound DraftModel DraftModel Refusal (counted draft) body next is in
+    read_keeps IsSound sound_is_kept _ (variables ++ variable_of name value ∷ []) first.value next
+    (counted_keeps IsSound sound_is_kept draft first.value sound first.is) first.next
