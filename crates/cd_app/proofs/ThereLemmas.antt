@@ -1,5 +1,5 @@
 -- Some outcome is due, whatever the words and the bytes.
-use Rattle.std.proofs.Common.{◌≡◌, ◌⊎◌, ℕ, zero, suc, ◌<◌, ◌≤◌, ◌==◌, Bool, true, false, List, [], ◌∷◌, length, Option, None, Some, Result, Ok, Err, All, refl, inl, inr, sym, ◌∙◌, arith}
+use Rattle.std.proofs.Common.{◌≡◌, ◌⊎◌, ℕ, zero, suc, ◌^◌, ◌<◌, ◌≤◌, ◌==◌, Bool, true, false, List, [], ◌∷◌, length, Option, None, Some, Result, Ok, Err, All, refl, inl, inr, sym, ◌∙◌, arith}
 use Rattle.std.specs.Prelude.{option_map}
 use Rattle.std.proofs.lemmas.Bool.{true≢false}
 use Rattle.std.proofs.lemmas.Bool.Decides.{Decides-eqb}
@@ -17,6 +17,7 @@ use Rattle.cd_check.specs.Checking.{Passes}
 use Rattle.cd_check.specs.There.{IsRefused, DocumentIsJudged}
 use Rattle.cd_core.specs.Single.{OnlyCopies, NeverHalts}
 use Rattle.cd_parse.specs.Laws.{ParsedIsWellRead}
+use Rattle.cd_parse.specs.WellRead.{WellRead}
 use Rattle.cd_parse.specs.Reading.{parse}
 use Rattle.cd_command.specs.declared.command.Command.{Command}
 use Rattle.cd_command.specs.declared.command.Command.TheVariants.{Check, Read, Lift, Run, Make}
@@ -86,6 +87,10 @@ runs_some with_record input = go (built_decided input.document.tree)
 said_some : (text_of : Accepted → List ℕ) → ComesSome (λ input outcome. outcome ≡ said (text_of input))
 said_some text_of input = (said (text_of input), refl)
 
+-- a document that was read has no more strikes than a script may have
+few_strikes : (document : Document) → WellRead document → length document.faults < 2 ^ 32
+few_strikes document well = let few : length document.faults ≤ 256 = well.few_faults in omega arith
+
 judged_some : ParsedIsWellRead → DocumentIsJudged → (Next : Accepted → Outcome → Type 0) → ComesSome Next → (bytes : List ℕ)
     → (outcome : Outcome) × Judged one_document bytes Next outcome
 judged_some well judged Next next bytes = go (parse bytes) refl
@@ -105,7 +110,7 @@ judged_some well judged Next next bytes = go (parse bytes) refl
 
     go : (r : Result Document Refusal) → parse bytes ≡ r → (outcome : Outcome) × Judged one_document bytes Next outcome
     go (Err refusal) is = (refused None refusal, inl (None, refusal, is, refl))
-    go (Ok document) is = by_checks document is (judged document (well bytes document is).tree)
+    go (Ok document) is = by_checks document is (judged document (well bytes document is).tree (few_strikes document (well bytes document is)))
 
 short_or_long : (size limit : ℕ) → (size ≤ limit) ⊎ (limit < size)
 short_or_long size limit = grind arith

@@ -1,5 +1,5 @@
 -- Each document is judged, since each of its checks has an answer.
-use Rattle.std.proofs.Common.{◌≡◌, ◌⊎◌, List, [], ◌∷◌, Option, None, Some, refl, inl, inr}
+use Rattle.std.proofs.Common.{◌≡◌, ◌⊎◌, ◌^◌, ◌<◌, length, List, [], ◌∷◌, Option, None, Some, refl, inl, inr}
 use Rattle.cd_tree.specs.declared.document.Document.{Document}
 use Rattle.cd_tree.specs.declared.document.Fault.{Fault}
 use Rattle.cd_tree.specs.declared.refusal.Refusal.{Refusal}
@@ -36,20 +36,21 @@ first_refusal_there first_overlap first_flaw first_fault document =
     first_there (Answers document) (answer_there first_overlap first_flaw first_fault document) static_checks
 
 -- a document without a first refusal passes
-passes_there : NoOverlapIsDisjoint → ScriptIsThere → (document : Document) → IsTree document.tree → FirstRefusal document None
+passes_there : NoOverlapIsDisjoint → ScriptIsThere → (document : Document) → IsTree document.tree
+    → length document.faults < 2 ^ 32 → FirstRefusal document None
     → (script : List Fault) × Passes document script
-passes_there disjoint script document is none =
-    let accepted = script document.tree is document.faults none.1.1.0 in (
+passes_there disjoint script document is few none =
+    let accepted = script document.tree is document.faults few none.1.1.0 in (
       accepted.0,
       record { checked = none; found = accepted.1; disjoint = disjoint document.tree is none.0; accepted = accepted.2 },
     )
 
 pub document_judged : FirstOverlapIsThere → NoOverlapIsDisjoint → FirstFlawIsThere → FirstFaultIsThere → ScriptIsThere → DocumentIsJudged
-document_judged first_overlap disjoint first_flaw first_fault script document is =
+document_judged first_overlap disjoint first_flaw first_fault script document is few =
     go (first_refusal_there first_overlap first_flaw first_fault document)
   where
     go : HasAnswer (FirstRefusal document) → ((refusal : Refusal) × IsRefused document refusal) ⊎ ((faults : List Fault) × Passes document faults)
-    go (None, none) = inr (passes_there disjoint script document is none)
+    go (None, none) = inr (passes_there disjoint script document is few none)
     go (Some refusal, says) = inl (refusal, says)
 
 none_is_some : (refusal : Refusal) → None ≡ Some refusal → ⊥

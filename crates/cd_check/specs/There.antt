@@ -1,5 +1,5 @@
 -- The laws that each document is judged: it has a first refusal, or it passes with a script, and not both.
-use Rattle.std.specs.Prelude.{◌⊎◌, List, Option, Some}
+use Rattle.std.specs.Prelude.{◌⊎◌, ◌^◌, ◌<◌, List, Option, Some, length}
 use Rattle.cd_tree.specs.declared.document.Document.{Document}
 use Rattle.cd_tree.specs.declared.document.Fault.{Fault}
 use Rattle.cd_tree.specs.declared.refusal.Refusal.{Refusal}
@@ -10,10 +10,10 @@ use Rattle.cd_check.specs.Checking.{FirstRefusal, Passes}
 abbrev pub IsRefused : Document → Refusal → Type 0
 IsRefused document refusal = FirstRefusal document (Some refusal)
 
--- each document is refused, or it passes with a script
+-- each document, whose strikes are no more than a script may have, is refused, or it passes with a script
 abbrev pub DocumentIsJudged : Type 0
 DocumentIsJudged =
-    (document : Document) → IsTree document.tree
+    (document : Document) → IsTree document.tree → length document.faults < 2 ^ 32
     → ((refusal : Refusal) × IsRefused document refusal) ⊎ ((script : List Fault) × Passes document script)
 
 -- no document that passes is refused

@@ -1,5 +1,5 @@
 -- A script has an answer: a search for the path of each fault, and then three tests.
-use Rattle.std.proofs.Common.{◌≡◌, ◌⊎◌, ℕ, zero, suc, ◌<◌, ◌≤◌, Bool, true, false, nat_le, List, [], ◌∷◌, length, Option, None, Some, All, refl, inl, inr, arith, subst, sym, ◌∙◌}
+use Rattle.std.proofs.Common.{◌≡◌, ◌⊎◌, ℕ, zero, suc, ◌^◌, ◌<◌, ◌≤◌, Bool, true, false, nat_le, List, [], ◌∷◌, length, Option, None, Some, All, refl, ap, inl, inr, arith, subst, sym, ◌∙◌}
 use Rattle.std.proofs.lemmas.Bool.{true≢false}
 use Rattle.std.proofs.lemmas.Bool.Decides.{nat_tests}
 use Rattle.std.proofs.lemmas.List.Elements.{All-nil, All-cons}
@@ -133,12 +133,20 @@ all_found tree at [] none = (
 all_found tree at (raw ∷ raws) (here, rest) =
     let behind = all_found tree (suc at) raws rest in one_found tree at raw raws behind.0 here behind.1
 
+-- a script has as many entries as the faults that it is found as
+found_length : (domains : List Domain) (raws : List RawFault) (script : List Fault) → AreFoundAs domains raws script → length script ≡ length raws
+found_length domains [] [] are = refl
+found_length domains [] (fault ∷ script) are = absurd are
+found_length domains (raw ∷ raws) [] are = absurd are
+found_length domains (raw ∷ raws) (fault ∷ script) (one, rest) = ap (λ (n : ℕ). suc n) (found_length domains raws script rest)
+
 -- where none is refused, they are found as a script that is accepted
-pub script_there : DetectableByPaths → (tree : TreeModel) → IsTree tree → (faults : List RawFault) → FirstFault tree.domains faults None
+pub script_there : DetectableByPaths → (tree : TreeModel) → IsTree tree → (faults : List RawFault) → length faults < 2 ^ 32
+    → FirstFault tree.domains faults None
     → (script : List Fault) × AreFoundAs tree.domains faults script × IsAccepted tree script
-script_there detectable tree is faults none =
+script_there detectable tree is faults few none =
     let all = all_found tree 1 faults none in (
       all.0,
       all.1.found,
-      record { strikes = all.1.strikes; found = (detectable tree all.0 is).0 (λ k d below within. all.1.declared k d below) },
+      record { few = subst (λ (n : ℕ). n < 2 ^ 32) (sym (found_length tree.domains faults all.0 all.1.found)) few; strikes = all.1.strikes; found = (detectable tree all.0 is).0 (λ k d below within. all.1.declared k d below) },
     )

@@ -1,5 +1,5 @@
 -- The laws that a script has an answer: a first refusal, or none and then a script that is accepted.
-use Rattle.std.specs.Prelude.{List, Option, None}
+use Rattle.std.specs.Prelude.{◌^◌, ◌<◌, List, Option, None, length}
 use Rattle.cd_tree.specs.declared.domain.Domain.{Domain}
 use Rattle.cd_tree.specs.declared.document.RawFault.{RawFault}
 use Rattle.cd_tree.specs.declared.document.Fault.{Fault}
@@ -12,8 +12,8 @@ use Rattle.cd_script.specs.Acceptance.{FirstFault, AreFoundAs}
 abbrev pub FirstFaultIsThere : Type 0
 FirstFaultIsThere = (domains : List Domain) (faults : List RawFault) → (answer : Option Refusal) × FirstFault domains faults answer
 
--- where none is refused, they are found as a script that is accepted
+-- where none is refused, they are found as a script that is accepted, if they are no more than a script may have
 abbrev pub ScriptIsThere : Type 0
 ScriptIsThere =
-    (tree : TreeModel) → IsTree tree → (faults : List RawFault) → FirstFault tree.domains faults None
+    (tree : TreeModel) → IsTree tree → (faults : List RawFault) → length faults < 2 ^ 32 → FirstFault tree.domains faults None
     → (script : List Fault) × AreFoundAs tree.domains faults script × IsAccepted tree script
