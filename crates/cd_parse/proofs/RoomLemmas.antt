@@ -1,34 +1,18 @@
 -- The room that a statement has where its tests hold, and that reading keeps a draft sound.
-use Rattle.std.proofs.Common.{◌≡◌, ℕ, zero, suc, ◌+◌, ◌-◌, ◌^◌, ◌<◌, ◌≤◌, ◌&&◌, nat_lt, nat_le, List, [], ◌∷◌, ◌++◌, Some, Ok, Result, length, get_or, slice_get, sum_by, refl, sym, ap, ◌∙◌, subst, arith, leb-true}
-use Rattle.std.proofs.lemmas.Bool.{and_parts}
-use Rattle.std.proofs.lemmas.List.Sums.{get_or-le-sum_by}
+use Rattle.std.proofs.Common.{◌≡◌, ℕ, zero, suc, ◌<◌, List, [], ◌∷◌, ◌++◌, Some, Ok, Result, slice_get, sym, ◌∙◌}
 use Rattle.cd_tree.specs.declared.refusal.Refusal.{Refusal}
 use Rattle.cd_tree.specs.declared.refusal.Which.{Which}
-use Rattle.cd_tree.specs.declared.refusal.Which.TheVariants as which
 use Rattle.cd_words.specs.declared.lines.Line.{Line}
 use Rattle.cd_words.specs.declared.sums.Variable.{Variable}
 use Rattle.cd_words.specs.declared.wrong.Wrong.{Wrong}
-use Rattle.cd_words.specs.declared.wrong.Wrong.TheVariants.{Limit}
-use Rattle.cd_words.specs.Wrongs.{guard, room, all_hold, ◌>>=◌}
+use Rattle.cd_words.specs.Wrongs.{room, all_hold}
 use Rattle.cd_parse.specs.Draft.{DraftModel}
-use Rattle.cd_parse.specs.Heads.{words_fit, retry_fits}
 use Rattle.cd_parse.specs.Reading.{counted, taken, looped, variable_of}
 use Rattle.cd_parse.specs.Turns.{read_from, turn_from}
-use Rattle.cd_parse.specs.Sound.{open_groups, IsSound}
-use Rattle.cd_parse.specs.Rooms.{HaveRoom}
-use Rattle.cd_parse.proofs.SoundChanges.{items_in}
-use Rattle.cd_parse.proofs.SoundGuards.{Bound, bound, guard_ok, room_ok, hold_ok}
+use Rattle.cd_parse.specs.Sound.{IsSound}
+use Rattle.cd_parse.proofs.SoundGuards.{Bound, bound, room_ok, hold_ok}
 use Rattle.cd_parse.proofs.SoundKeeps.{counted_keeps, taken_keeps, looped_keeps, read_keeps}
 use Rattle.cd_parse.proofs.SoundReading.{sound_is_kept}
-
--- ---- a sound draft
-
--- each of its domains may have an item more
-pub have_room : (draft : DraftModel) → IsSound draft → HaveRoom draft.domains
-have_room draft is k none within =
-    let items : sum_by items_in draft.domains + open_groups draft.levels ≡ draft.items = is.items in
-    let few : draft.items ≤ 16384 = is.few_items in
-    omega (arith, items, few, get_or-le-sum_by items_in draft.domains k none within)
 
 -- ---- tests that hold
 
@@ -44,20 +28,6 @@ pub room_held : (k : ℕ) (tests : List (Result (Unit {0}) Wrong)) (test : Resul
     → slice_get tests k ≡ Some test → test ≡ room limit most count → all_hold tests ≡ Ok tt → count < most
 room_held k tests test limit most count there is all = room_ok limit most count tt (sym is ∙ holds_at k tests test there all)
 
--- the test of a region's words
-pub words_held : (k : ℕ) (tests : List (Result (Unit {0}) Wrong)) (test : Result (Unit {0}) Wrong) (sum : ℕ) → slice_get tests k ≡ Some test
-    → test ≡ words_fit sum → all_hold tests ≡ Ok tt → sum ≤ 1048576
-words_held k tests test sum there is all =
-    leb-true sum 1048576 (guard_ok (nat_le sum 1048576) _ tt (sym is ∙ holds_at k tests test there all))
-
--- the test of a domain's tries
-pub retry_held : (k : ℕ) (tests : List (Result (Unit {0}) Wrong)) (test : Result (Unit {0}) Wrong) (tries : ℕ) → slice_get tests k ≡ Some test
-    → test ≡ retry_fits tries → all_hold tests ≡ Ok tt → tries ≤ 100
-retry_held k tests test tries there is all =
-    leb-true tries 100
-    (and_parts (nat_lt 0 tries) (nat_le tries 100)
-    (guard_ok (nat_lt 0 tries && nat_le tries 100) (Limit which.Retry tries) tt (sym is ∙ holds_at k tests test there all))).1
-
 -- ---- reading
 
 -- what a statement, a loop and a turn leave is sound
@@ -68,9 +38,6 @@ pub looped_sound : (lines : List Line) (from : ℕ) (variables : List Variable) 
     → looped (read_from lines from) variables line draft ≡ Ok next → IsSound next
 looped_sound lines from variables line draft next sound is =
     looped_keeps IsSound sound_is_kept (read_from lines from) (read_keeps IsSound sound_is_kept _) variables line draft next sound is
-
-pub counted_sound : (draft next : DraftModel) → IsSound draft → counted draft ≡ Ok next → IsSound next
-counted_sound draft next sound is = counted_keeps IsSound sound_is_kept draft next sound is
 
 pub turn_sound : (lines : List Line) (from : ℕ) (variables : List Variable) (name : List ℕ) (value : ℕ) (draft next : DraftModel) → IsSound draft
     → turn_from lines from variables name value draft ≡ Ok next → IsSound next

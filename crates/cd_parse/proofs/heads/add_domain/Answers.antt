@@ -1,4 +1,4 @@
-use Rattle.std.proofs.Common.{◌≡◌, ◌<◌, List, [], ◌∷◌, Result, Ok, length, refl, sym, ap, ◌∙◌, arith}
+use Rattle.std.proofs.Common.{List, [], ◌∷◌, Result, length, refl, sym, ap, ◌∙◌, arith}
 use Rattle.cd_tree.specs.declared.refusal.Which.TheVariants as which
 use Rattle.cd_words.specs.declared.wrong.Wrong.{Wrong}
 use Rattle.cd_parse.specs.Draft.{DraftModel}
