@@ -1,5 +1,5 @@
 -- Lists of events in parts: one part more, and the part that has the k-th event.
-use Rattle.std.proofs.Common.{◌≡◌, ℕ, ◌+◌, ◌-◌, ◌<◌, ◌≤◌, List, [], ◌∷◌, ◌++◌, length, get_or, take, drop, Some, arith, refl, ap, subst, sym, ◌∙◌, inl, inr, append_assoc}
+use Rattle.std.proofs.Common.{◌≡◌, ℕ, ◌+◌, ◌-◌, ◌*◌, ◌^◌, ◌<◌, ◌≤◌, List, [], ◌∷◌, ◌++◌, length, get_or, take, drop, Some, arith, refl, ap, subst, sym, ◌∙◌, inl, inr, append_assoc}
 use Rattle.std.specs.Prelude.{slice_get}
 use Rattle.std.proofs.Math.Seq.{take-append_seam}
 use Rattle.std.proofs.lemmas.Bool.{cases_lt}
@@ -21,8 +21,8 @@ events_pushed ps later p is =
     ap events_in is ∙ events_in-append ps (p ∷ []) ∙ ap (λ (v : List Event). events_in ps ++ v) (append-nil p.events.items)
 
 pub numbered_pushed : (ps later : List Part) (p : Part) (count more : ℕ) → later ≡ ps ++ p ∷ [] → IsNumbered ps count → p.first ≡ count
-    → more ≡ count + length p.events.items → IsNumbered later more
-numbered_pushed ps later p count more is numbered first total = record {
+    → more ≡ count + length p.events.items → length p.events.items < 2 ^ 64 → IsNumbered later more
+numbered_pushed ps later p count more is numbered first total short = record {
   first = λ i none short.
       let P : List Part → Type 0 = λ v. (get_or v i none).first ≡ before_part v i in
       let whole : count ≡ length (events_in ps) = numbered.whole in
@@ -42,6 +42,10 @@ numbered_pushed ps later p count more is numbered first total = record {
       let whole : count ≡ length (events_in ps) = numbered.whole in
       let long : length (events_in later) ≡ length (events_in ps) + length p.events.items =
       ap length (events_pushed ps later p is) ∙ length-append (events_in ps) p.events.items in
+      omega (arith, total);
+  few =
+      let few : count ≤ length ps * 2 ^ 64 = numbered.few in
+      let many : length later ≡ length ps + 1 = ap length is ∙ (let l : length (ps ++ p ∷ []) ≡ length ps + 1 = omega (arith, length-append ps (p ∷ [])) in l) in
       omega (arith, total);
 }
 

@@ -8,7 +8,7 @@ use Rattle.std.proofs.lemmas.List.FromFn.{length-map-range_with_len, get_or-map-
 use Rattle.std.proofs.Math.Path.{fun_ext}
 use Rattle.cd_base.specs.declared.place.Place.{Place}
 use Rattle.cd_base.specs.declared.place.Range.{Range}
-use Rattle.cd_base.specs.Words.{Words, PlaceSet, word_at, same_place, in_range, in_ranges}
+use Rattle.cd_base.specs.Words.{Words, PlaceSet, word_at, same_place, in_range}
 use Rattle.cd_tree.specs.Operations.{length_of, nth_word}
 use Rattle.cd_field.specs.FieldModel.{FieldModel, IsPresent, ArePresent, wrote, refilled_word, laid, words_in, wrote_run, refilled_run}
 use Rattle.cd_field.proofs.FlatLemmas.{by_test, chosen, other}

@@ -1,5 +1,5 @@
 -- A run of places that all have words stands in one slot, so its words follow each other in the flat list.
-use Rattle.std.proofs.Common.{◌≡◌, ℕ, ◌+◌, ◌-◌, ◌<◌, ◌≤◌, Bool, true, false, cond, if◌then◌else◌, List, ◌++◌, length, take, drop, get_or, replicate, Option, None, Some, IsSome, unwrap_or, refl, ap, sym, subst, ◌∙◌, arith, inl, inr}
+use Rattle.std.proofs.Common.{◌≡◌, ℕ, ◌+◌, ◌-◌, ◌<◌, ◌≤◌, Bool, true, false, if◌then◌else◌, List, ◌++◌, length, take, drop, get_or, replicate, Option, None, Some, IsSome, unwrap_or, refl, ap, sym, subst, ◌∙◌, arith, inl, inr}
 use Rattle.std.specs.Prelude.{slice_get}
 use Rattle.std.specs.List.{splice}
 use Rattle.std.proofs.lemmas.Bool.{cases_lt}
@@ -12,7 +12,7 @@ use Rattle.cd_tree.specs.Operations.{length_of, nth_word}
 use Rattle.cd_field.specs.declared.flat_words.Slot.{Slot}
 use Rattle.cd_field.specs.Flat.{index_of, item_by, is_lost, flat_words, slot_at, IsInOrder, HasRoom}
 use Rattle.cd_field.proofs.PlaceLemmas.{same_place-eq}
-use Rattle.cd_field.proofs.FlatLemmas.{Inside, inside_from, inside_to, Found, index_found, index_in_slot, index_one, item_there, stands_within, before_says, by_test, by_option, chosen, other, not_true, lost_choice}
+use Rattle.cd_field.proofs.FlatLemmas.{Inside, inside_from, inside_to, Found, index_found, index_in_slot, index_one, item_there, stands_within, before_says, by_test, by_option, chosen, other, lost_choice}
 
 -- ---- the slot of a run
 

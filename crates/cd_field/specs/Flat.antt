@@ -1,5 +1,5 @@
 -- Words in one flat list, beside it whether each is away, with a table of the ranges whose words they are; and the machine that is made of them.
-use Rattle.std.specs.Prelude.{◌≡◌, ℕ, ◌+◌, ◌-◌, ◌<◌, ◌≤◌, Bool, true, false, List, [], ◌∷◌, length, Option, None, Some, slice_get, slice_index_or, if◌then◌else◌}
+use Rattle.std.specs.Prelude.{◌≡◌, ℕ, ◌+◌, ◌-◌, ◌^◌, ◌<◌, ◌≤◌, Bool, true, false, List, [], ◌∷◌, length, Option, None, Some, slice_get, slice_index_or, if◌then◌else◌}
 use Rattle.cd_base.specs.declared.place.Place.{Place}
 use Rattle.cd_base.specs.declared.place.Range.{Range}
 use Rattle.cd_base.specs.Places.{is_before}
@@ -45,6 +45,10 @@ pub record IsInOrder (slots : List Slot) : Type 0 where
 pub record HasRoom (slots : List Slot) (count : ℕ) : Type 0 where
   pub apart : (j k : ℕ) → j < k → k < length slots → (slot_at slots j).first + length_of (slot_at slots j).range ≤ (slot_at slots k).first
   pub room : (k : ℕ) → k < length slots → (slot_at slots k).first + length_of (slot_at slots k).range ≤ count
+
+-- where words stand is told by machine numbers
+pub record IsCounted (slots : List Slot) : Type 0 where
+  pub each : (k : ℕ) → k < length slots → (slot_at slots k).first + length_of (slot_at slots k).range < 2 ^ 64
 
 abbrev pub no_range : Range
 no_range = record { region = 0; low = 0; high = 0 }

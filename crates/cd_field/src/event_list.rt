@@ -12,15 +12,15 @@ const FULL: usize = 1024;
 /// Some events of a list, and how many stand before them.
 #[derive(Drop)]
 pub(crate) struct Part {
-    first: u64,
+    first: u128,
     events: Vec<Event>,
 }
 
-/// Parts one after another, and the number of their events.
+/// Parts one after another, and the number of their events. Wide numbers count them, since lists may be joined without end.
 #[derive(Drop)]
 pub(crate) struct Parts {
     parts: Vec<Part>,
-    count: u64,
+    count: u128,
     ghost numbered: { IsNumbered parts.items count },
 }
 
@@ -41,9 +41,7 @@ impl Parts {
         ensures { OnOk result (events_in self.new.parts.items ≡ events_in self.old.parts.items ++ events.items) }
     {
         let first = self.count;
-        let Some(count) = first.checked_add(events.len() as u64) else {
-            return Err(NoMemory);
-        };
+        let count = first + events.len() as u128;
         self.parts.push(Part { first, events })?;
         self.count = count;
         Ok(())
@@ -54,9 +52,10 @@ impl Parts {
         requires { k < self.now.count }
         ensures { result ≡ slice_get (events_in self.now.parts.items) k }
     {
+        let k = u128::from(k);
         let i = find_part(self.parts.as_slice(), self.count, k);
         let part = &self.parts[i];
-        nth(part.events.as_slice(), k - part.first)
+        nth(part.events.as_slice(), (k - part.first) as u64)
     }
 }
 
@@ -67,7 +66,7 @@ fn nth(events: &[Event], k: u64) -> Option<Event>
 }
 
 // The part that has the k-th event: half of what is left goes at each look.
-fn find_part(parts: &[Part], count: u64, k: u64) -> usize
+fn find_part(parts: &[Part], count: u128, k: u128) -> usize
     requires numbered { IsNumbered parts.now count }
     requires within { k < count }
     ensures here { result < length parts.now }
@@ -133,10 +132,11 @@ impl EventList {
     pub(crate) fn get(&self, k: u64) -> Option<Event>
         ensures { result ≡ slice_get (events_of self.now.parts.parts.items self.now.latest.items) k }
     {
-        if k < self.parts.count {
+        let count = self.parts.count;
+        if u128::from(k) < count {
             self.parts.get(k)
         } else {
-            nth(self.latest.as_slice(), k - self.parts.count)
+            nth(self.latest.as_slice(), (u128::from(k) - count) as u64)
         }
     }
 

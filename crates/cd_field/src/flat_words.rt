@@ -6,7 +6,7 @@ ghost use Rattle.cd_base.specs.Words.{same_place, in_range};
 ghost use Rattle.cd_tree.specs.Meaning.{written};
 ghost use Rattle.cd_tree.specs.Operations.{length_of};
 ghost use Rattle.cd_field.specs.FieldModel.{laid, words_in};
-ghost use Rattle.cd_field.specs.Flat.{index_of, flat_words, flat_lost, slot_at, HasRoom, IsInOrder, IsWhole};
+ghost use Rattle.cd_field.specs.Flat.{index_of, flat_words, flat_lost, slot_at, HasRoom, IsCounted, IsInOrder, IsWhole};
 
 use cd_base::{NoMemory, Place, Range};
 use std::alloc::Global;
@@ -15,7 +15,7 @@ use std::alloc::Global;
 #[derive(Debug, Clone, Copy, PartialEq, Eq)]
 pub(crate) struct Slot {
     range: Range,
-    first: u32,
+    first: usize,
 }
 
 /// The words of ranges in order, none of which overlap.
@@ -185,14 +185,11 @@ impl FlatWords {
         ensures slots { OnOk result (self.new.slots.items ≡ self.old.slots.items ++ record { range = range; first = length self.old.words.items } ∷ []) }
     {
         let count = self.words.len();
-        if count > u32::MAX as usize {
-            return Err(NoMemory);
-        }
         add_blanks(&mut self.words, &mut self.away, range.high - range.low)?;
         self.whole = is_next(self.whole, self.slots.len(), range);
         self.slots.push(Slot {
             range,
-            first: count as u32,
+            first: count,
         })?;
         Ok(())
     }
@@ -321,22 +318,22 @@ fn push_blank(words: &mut Vec<u64>, away: &mut Vec<bool>) -> Result<(), NoMemory
 #[inline(always)]
 fn first_of(slots: &[Slot], region: u32) -> usize
     requires { region < length slots.now }
-    ensures first { result ≡ (slot_at slots.now region).first }
-    ensures few { result < 2 ^ 32 }
+    ensures { result ≡ (slot_at slots.now region).first }
 {
-    slots[region as usize].first as usize
+    slots[region as usize].first
 }
 
 // Where the word of a place stands. The first look is at the slot of the region's number, which is the right one where
 // each region is whole.
 #[inline(always)]
 fn find_index(slots: &[Slot], place: Place) -> Option<usize>
-    requires { IsInOrder slots.now }
+    requires order { IsInOrder slots.now }
+    requires counted { IsCounted slots.now }
     ensures { result ≡ index_of slots.now place }
 {
     if let Some(slot) = slots.get(place.region as usize) {
         if has_place(slot.range, place) {
-            return Some(slot.first as usize + (place.index - slot.range.low) as usize);
+            return Some(slot.first + (place.index - slot.range.low) as usize);
         }
     }
     search_index(slots, place)
@@ -352,7 +349,8 @@ fn has_place(range: Range, place: Place) -> bool
 #[cold]
 #[inline(never)]
 fn search_index(slots: &[Slot], place: Place) -> Option<usize>
-    requires { IsInOrder slots.now }
+    requires order { IsInOrder slots.now }
+    requires counted { IsCounted slots.now }
     ensures { result ≡ index_of slots.now place }
 {
     let mut low = 0;
@@ -365,7 +363,7 @@ fn search_index(slots: &[Slot], place: Place) -> Option<usize>
         } else if begins_behind(slot.range, place) {
             high = middle;
         } else {
-            return Some(slot.first as usize + (place.index - slot.range.low) as usize);
+            return Some(slot.first + (place.index - slot.range.low) as usize);
         }
     }
     None

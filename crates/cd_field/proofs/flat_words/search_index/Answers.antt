@@ -8,7 +8,7 @@ loop-low-preserved-then-ends_before c =
     let short : c.half_way-middle.result < length c.args.slots.now =
     omega (arith, c.half_way-middle.ensures.1, c.loop-low.invariant.within) in
     record {
-      ahead = ahead_more c.args.slots.now c.args.place c.half_way-middle.result c.requires short
+      ahead = ahead_more c.args.slots.now c.args.place c.half_way-middle.result c.requires.order short
           (sym c.ends_before.ensures ∙ c.if-ends_before.true);
       within = c.loop-low.invariant.within;
       behind = c.loop-low.invariant.behind;
@@ -18,7 +18,7 @@ pub returns-else-begins_behind : goal.returns-else-begins_behind
 returns-else-begins_behind c =
     let short : c.half_way-middle.result < length c.args.slots.now =
     omega (arith, c.half_way-middle.ensures.1, c.loop-low.invariant.within) in
-    index_there c.args.slots.now c.args.place c.half_way-middle.result c.requires short
+    index_there c.args.slots.now c.args.place c.half_way-middle.result c.requires.order short
     (sym c.ends_before.ensures ∙ c.if-ends_before.false) (sym c.begins_behind.ensures ∙ c.if-begins_behind.false)
 
 pub returns : goal.returns

@@ -7,10 +7,10 @@ pub invariant_of-self-2 : goal.invariant_of-self-2
 invariant_of-self-2 c =
     let part : Part = record { first = c.args.self.now.count; events = c.args.events } in
     let long : c.len.result ≡ length c.args.events.items = search rules in
-    let total : c.in-Some.count ≡ c.args.self.now.count + length c.args.events.items = omega (arith, c.in-Some.ensures, long) in
+    let total : c.args.self.now.count + c.len.result ≡ c.args.self.now.count + length c.args.events.items = omega (arith, long) in
     record {
-      numbered = numbered_pushed c.args.self.now.parts.items c.push.new.self.items part c.args.self.now.count c.in-Some.count
-          c.in_ok-push.ensures.items c.args.self.now.numbered refl total;
+      numbered = numbered_pushed c.args.self.now.parts.items c.push.new.self.items part c.args.self.now.count _
+          c.in_ok-push.ensures.items c.args.self.now.numbered refl total (search rules);
     }
 
 pub returns : goal.returns

@@ -1,4 +1,4 @@
-use Rattle.std.proofs.Common.{◌<◌, ◌-◌, length, arith}
+use Rattle.std.proofs.Common.{arith}
 use Rattle.cd_field.proofs.RunLemmas.{read_all, read_more}
 use Rattle.cd_field.proofs.field.Field.read_run.Goals as goal
 

@@ -1,4 +1,4 @@
-use Rattle.std.proofs.Common.{◌≡◌, ℕ, ◌<◌, ◌≤◌, ◌-◌, get_or}
+use Rattle.std.proofs.Common.{◌≡◌, ℕ, ◌<◌, ◌-◌, get_or}
 use Rattle.cd_tree.specs.Operations.{nth_word}
 use Rattle.cd_field.proofs.field.Field.read_run.Given as goal
 

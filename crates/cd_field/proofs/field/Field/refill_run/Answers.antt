@@ -1,6 +1,5 @@
 use Rattle.std.proofs.Common.{arith}
-use Rattle.cd_field.specs.FieldModel.{FieldModel}
-use Rattle.cd_field.proofs.RunLemmas.{refilled_none, refilled_more, refilled_all, refilled_known}
+use Rattle.cd_field.proofs.RunLemmas.{refilled_none, refilled_more, refilled_all}
 use Rattle.cd_field.proofs.field.Field.refill_run.Goals as goal
 
 pub loop-index-init : goal.loop-index-init

@@ -1,6 +1,5 @@
 use Rattle.std.proofs.Common.{arith}
-use Rattle.cd_field.specs.FieldModel.{FieldModel}
-use Rattle.cd_field.proofs.RunLemmas.{wrote_none, wrote_more, wrote_all, wrote_present}
+use Rattle.cd_field.proofs.RunLemmas.{wrote_none, wrote_more, wrote_all}
 use Rattle.cd_field.proofs.field.Field.write_run.Goals as goal
 
 pub loop-index-init : goal.loop-index-init

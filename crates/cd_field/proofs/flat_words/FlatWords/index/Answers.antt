@@ -25,7 +25,7 @@ returns-then-self-clause-stands c =
     (c.args.self.now.regions c.if-self.true) refl c.requires in
     there.stands
     ∙ ap (λ (v : List Slot). Some ((slot_at v c.args.place.region).first + c.args.place.index)) (sym c.as_slice.ensures.value)
-    ∙ ap (λ (n : ℕ). Some (n + c.args.place.index)) (sym c.first_of.ensures.first)
+    ∙ ap (λ (n : ℕ). Some (n + c.args.place.index)) (sym c.first_of.ensures)
 
 pub returns-then-self-clause-within : goal.returns-then-self-clause-within
 returns-then-self-clause-within c =

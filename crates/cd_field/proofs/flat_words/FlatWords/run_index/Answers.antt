@@ -1,5 +1,4 @@
-use Rattle.std.proofs.Common.{◌≡◌, List, ℕ, length, refl, subst}
-use Rattle.cd_field.specs.declared.flat_words.Slot.{Slot}
+use Rattle.std.proofs.Common.{refl}
 use Rattle.cd_field.proofs.SlotRuns.{run_room, first_has, within_lists}
 use Rattle.cd_field.proofs.flat_words.FlatWords.run_index.Goals as goal
 
