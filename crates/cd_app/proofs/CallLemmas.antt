@@ -7,18 +7,23 @@ use Rattle.cd_tree.specs.declared.document.Document.{Document}
 use Rattle.cd_tree.specs.declared.document.Fault.{Fault}
 use Rattle.cd_tree.specs.declared.event.Cause.{Cause}
 use Rattle.cd_tree.specs.declared.refusal.Refusal.{Refusal}
-use Rattle.cd_check.specs.Checking.{FirstRefusalOf, Passes}
+use Rattle.cd_tree.specs.declared.refusal.Refuse.{Refuse}
+use Rattle.cd_tree.specs.declared.refusal.Refuse.TheVariants as refuse
+use Rattle.cd_check.specs.Checking.{FirstRefusalOf, Passes, Checks}
 use Rattle.cd_parse.specs.Reading.{parse}
 use Rattle.cd_field.specs.FieldModel.{FieldModel}
 use Rattle.cd_command.specs.declared.command.Command.{Command}
 use Rattle.cd_command.specs.CommandLine.{command_in}
+use Rattle.cd_app.specs.declared.actions.Action.{Action}
+use Rattle.cd_app.specs.declared.actions.Action.TheVariants as action
+use Rattle.cd_app.specs.declared.receive.Stop.{Stop}
 use Rattle.cd_app.specs.declared.receive.Stop.TheVariants as stop
 use Rattle.cd_app.specs.declared.status.Status.TheVariants.{NoMemory}
 use Rattle.cd_app.specs.Running.{HoldsRun, IsBuilt}
 use Rattle.cd_app.specs.Deeds.{Intake, one_document, Accepted, Deed, makes, says, runs, deed_of, deed_in, intake_of, intake_in}
 use Rattle.cd_app.specs.Outcomes.{Input, whole, too_much, unread, Gave, AcceptsBytes, Outcome, no_command, made, not_read, refused, said, not_built, ran, Runs, ComesOfInput, ComesOf}
 use Rattle.cd_app.specs.Calls.{Call, call_of, Comes, Leaves, Ends, TookWithin, ComesToRun, RanOut, Meets}
-use Rattle.cd_app.specs.Parts.{IsRead, IsNone, IsRefusedBy}
+use Rattle.cd_app.specs.Parts.{deed_for, IsRead, IsNone, IsRefusedBy, Receives, ReadsBytes}
 
 -- ---- what the words ask for
 
@@ -26,6 +31,12 @@ use Rattle.cd_app.specs.Parts.{IsRead, IsNone, IsRefusedBy}
 pub asks_for : (words : List (List ℕ)) (parsed : Option Command) (command : Command) → parsed ≡ command_in words
     → parsed ≡ Some command → deed_in words ≡ Some (deed_of command)
 asks_for words parsed command exact is = ap (option_map deed_of) (sym exact ∙ is)
+
+-- the same, where the command is taken apart
+pub asks_for_it : (words : List (List ℕ)) (parsed : Option Command) (command given : Command) → parsed ≡ command_in words
+    → parsed ≡ Some command → command ≡ given → deed_in words ≡ Some (deed_of given)
+asks_for_it words parsed command given exact is same =
+    asks_for words parsed command exact is ∙ ap (λ (c : Command). Some (deed_of c)) same
 
 pub asks_for_nothing : (words : List (List ℕ)) (parsed : Option Command) → parsed ≡ command_in words → parsed ≡ None
     → deed_in words ≡ None
@@ -36,10 +47,31 @@ pub takes_by : (words : List (List ℕ)) (deed : Deed) (intake : Intake) → dee
     → intake_in words ≡ Some intake
 takes_by words deed intake asked is = ap (option_and_then intake_of) asked ∙ is
 
+-- each action takes one document
+pub action_takes : (to : Action) → intake_of (deed_for to) ≡ Some one_document
+action_takes action.Check = refl
+action_takes action.Read = refl
+action_takes (action.Run with_record) = refl
+
+-- what the checks refuse is refused
+pub checks_refuse : (document : Document) (why : Refuse) → Checks document (Err why) → IsRefusedBy one_document document why
+checks_refuse document (refuse.Refused refusal) first = first
+checks_refuse document refuse.NoMemory first = tt
+
 -- what comes of a deed comes of the words that ask for it
 pub comes_by : (call : Call) (deed : Option Deed) (outcome : Outcome) → deed_in call.words ≡ deed
     → ComesOf (Gave call.source_was call.source_now) deed outcome → Comes call outcome
 comes_by call deed outcome asked comes = subst (λ (d : Option Deed). ComesOf (Gave call.source_was call.source_now) d outcome) (sym asked) comes
+
+-- ---- the document that a source gave
+
+-- bytes that were all taken, and what they are read as
+pub received : (old new : SourceModel) (bytes : List ℕ) (result : Result Document Stop) → Gave old new one_document.limit (whole bytes)
+    → ReadsBytes bytes result → Receives one_document old new result
+received old new bytes (Ok document) gave reads = record { bytes = bytes; gave = gave; read = reads }
+received old new bytes (Err (stop.Refused refusal)) gave reads = inr (bytes, gave, reads)
+received old new bytes (Err stop.ReadFault) gave reads = absurd reads
+received old new bytes (Err stop.NoMemory) gave reads = (bytes, gave.0, gave.2)
 
 -- ---- outcomes of an input
 

@@ -36,8 +36,8 @@ Decided P = P ⊎ (P → ⊥)
 
 both : {P Q : Type 0} → Decided P → Decided Q → Decided (P × Q)
 both {P} {Q} (inl p) (inl q) = inl (p, q)
-both {P} {Q} (inl p) (inr no) = inr (λ pair. no pair.1)
-both {P} {Q} (inr no) other = inr (λ pair. no pair.0)
+both {P} {Q} (inl p) (inr never) = inr (λ pair. never pair.1)
+both {P} {Q} (inr never) other = inr (λ pair. never pair.0)
 
 same_number : (m n : ℕ) → Decided (m ≡ n)
 same_number m n = go (m == n) refl
@@ -52,8 +52,8 @@ all_decided {A} P each (x ∷ xs) = go (each x) (all_decided P each xs)
   where
     go : Decided (P x) → Decided (All P xs) → Decided (All P (x ∷ xs))
     go (inl here) (inl rest) = inl (All-cons P x xs here rest)
-    go (inl here) (inr no) = inr (λ all. no (λ k d short. all (suc k) d (omega (arith, short))))
-    go (inr no) other = inr (λ all. no (all 0 x (omega arith)))
+    go (inl here) (inr never) = inr (λ all. never (λ k d short. all (suc k) d (omega (arith, short))))
+    go (inr never) other = inr (λ all. never (all 0 x (omega arith)))
 
 copied : (how : How) → Decided (how ≡ kept.Copy)
 copied kept.Copy = inl refl
@@ -69,7 +69,7 @@ built_decided tree =
   where
     go : Decided ((length tree.domains ≡ 1) × (OnlyCopies tree × NeverHalts tree)) → Decided (IsBuilt tree)
     go (inl parts) = inl (record { one = parts.0; copies = parts.1.0; quiet = parts.1.1 })
-    go (inr no) = inr (λ built. no (built.one, (built.copies, built.quiet)))
+    go (inr never) = inr (λ built. never (built.one, (built.copies, built.quiet)))
 
 -- ---- something comes of each input
 
@@ -82,7 +82,7 @@ runs_some with_record input = go (built_decided input.document.tree)
   where
     go : Decided (IsBuilt input.document.tree) → (outcome : Outcome) × Runs with_record input outcome
     go (inl built) = (ran with_record input, inl (built, refl))
-    go (inr no) = (not_built, inr (no, refl))
+    go (inr never) = (not_built, inr (never, refl))
 
 said_some : (text_of : Accepted → List ℕ) → ComesSome (λ input outcome. outcome ≡ said (text_of input))
 said_some text_of input = (said (text_of input), refl)

@@ -62,7 +62,7 @@ fn judge<K: Sink, F: Field>(
     sink: &mut K,
     machine: &mut F,
 ) -> Status
-    requires { WellRead document.now }
+    requires well { WellRead document.now }
     ensures { (call : Call) → deed_in call.words ≡ Some (deed_for action) → IsRead one_document call.source_was call.source_now document.now → call.machine_was ≡ F.model machine.old → call.machine_now ≡ F.model machine.new → Meets call (K.model sink.old) (K.model sink.new) result }
 {
     match Footprints::of(alloc, &document.tree) {

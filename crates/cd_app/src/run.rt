@@ -62,8 +62,9 @@ fn run_machine<F: Field>(
     ensures cause { IfOk result (λ ran. ran.1 ≡ cause_in document.now.tree script.now) }
 {
     laws::a_covered_domain_reaches_its_entries_alone();
+    prove!(0 < plan.tree().count());
     machine.load(&document.regions, script)?;
-    run_one(alloc, plan.tree(), machine)
+    run_one(alloc, &document.tree, machine)
 }
 
 // Writes the report of a run.
@@ -74,12 +75,12 @@ fn report<K: Sink, F: Field>(
     machine: &F,
     begins: u64,
     cause: Option<&Cause>,
-    with_record: bool,
+    record_wanted: bool,
     sink: &mut K,
 ) -> Result<(), WriteStop>
     requires built { IsBuilt document.now.tree }
     requires ran { (script : List Fault) × HoldsRun document.now script (F.model machine.now) }
-    ensures { (script : List Fault) → HoldsRun document.now script (F.model machine.now) → begins ∷ [] ≡ begins_in document.now.tree script → option_copied cause.entry ≡ cause_in document.now.tree script → WriteAll (K.model sink.old) (K.model sink.new) (report_of with_record document.now script) result }
+    ensures { (script : List Fault) → HoldsRun document.now script (F.model machine.now) → begins ∷ [] ≡ begins_in document.now.tree script → option_copied cause.entry ≡ cause_in document.now.tree script → WriteAll (K.model sink.old) (K.model sink.new) (report_of record_wanted document.now script) result }
 {
     laws::words_stay();
     let Ok(counts) = vec![in alloc; begins] else {
@@ -92,7 +93,7 @@ fn report<K: Sink, F: Field>(
         machine,
         &Begins::of(counts),
         cause,
-        with_record,
+        record_wanted,
         sink,
     )
 }

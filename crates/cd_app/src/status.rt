@@ -50,8 +50,12 @@ impl Status {
         ensures { result ≡ behind_fault self }
     {
         match self {
-            Status::Done | Status::Exhausted(_) => Status::WriteFault,
-            status => status,
+            Status::Done | Status::Exhausted(_) | Status::WriteFault => Status::WriteFault,
+            Status::Usage => Status::Usage,
+            Status::Refused(refusal) => Status::Refused(refusal),
+            Status::ReadFault => Status::ReadFault,
+            Status::NoMemory => Status::NoMemory,
+            Status::NotBuilt => Status::NotBuilt,
         }
     }
 }

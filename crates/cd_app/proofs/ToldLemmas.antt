@@ -1,0 +1,105 @@
+-- From what a part of the code wrote, and the status that it gave, to what the whole call does.
+use Rattle.std.proofs.Common.{◌≡◌, Bool, ℕ, List, Option, None, Some, Result, refl, ap, sym, subst, ◌∙◌}
+use Rattle.cd_base.specs.declared.sink.WriteStop.{WriteStop}
+use Rattle.cd_base.specs.Ends.{SinkModel, WriteAll}
+use Rattle.cd_tree.specs.declared.document.Document.{Document}
+use Rattle.cd_tree.specs.declared.document.Fault.{Fault}
+use Rattle.cd_tree.specs.declared.event.Cause.{Cause}
+use Rattle.cd_tree.specs.declared.refusal.Refusal.{Refusal}
+use Rattle.cd_tree.specs.declared.refusal.Refuse.{Refuse}
+use Rattle.cd_tree.specs.declared.refusal.Refuse.TheVariants as refuse
+use Rattle.cd_check.specs.Checking.{Passes}
+use Rattle.cd_reading.specs.Through.{cause_in}
+use Rattle.cd_report.specs.Texts.{refusal_line, usage_line, fault_line, not_built_line}
+use Rattle.cd_app.specs.declared.receive.Stop.{Stop}
+use Rattle.cd_app.specs.declared.receive.Stop.TheVariants as stop
+use Rattle.cd_app.specs.declared.status.Status.{Status}
+use Rattle.cd_app.specs.declared.status.Status.TheVariants.{Done, Usage, Refused, ReadFault, NoMemory, NotBuilt}
+use Rattle.cd_app.specs.Running.{HoldsRun, IsBuilt, report_of}
+use Rattle.cd_app.specs.Deeds.{one_document, Accepted, makes, says, runs, deed_in, intake_in}
+use Rattle.cd_app.specs.Outcomes.{refused, not_read, said, not_built, ran, made, no_command, status_by}
+use Rattle.cd_app.specs.Calls.{Call, Meets}
+use Rattle.cd_app.specs.Parts.{IsRead, IsNone, IsRefusedBy, settled}
+use Rattle.cd_app.proofs.CallLemmas.{input_of, takes_by, none_refused, fault_ends, document_refused, said_ends, unbuilt_ends, ran_ends, usage_ends, made_ends, no_memory_yet, no_memory_for}
+use Rattle.cd_app.proofs.WriteLemmas.{told}
+
+-- ---- there is no document
+
+pub refused_told : {T : Type 0} (call : Call) (old new : SinkModel) (why : Stop) (refusal : Refusal) (copied : Option Document)
+    (status : Status) (wrote : Result T WriteStop) → why ≡ stop.Refused refusal → copied ≡ None
+    → status ≡ settled wrote (Refused refusal) → WriteAll old new (refusal_line copied refusal) wrote
+    → intake_in call.words ≡ Some one_document → call.machine_now ≡ call.machine_was
+    → IsNone one_document call.source_was call.source_now why → Meets call old new status
+refused_told {T} call old new why refusal copied status wrote is copy said_so wrote_it takes now none =
+    told call old new (refused None refusal) wrote (Refused refusal) (refusal_line copied refusal) status said_so refl
+    (ap (λ (d : Option Document). refusal_line d refusal) copy)
+    (none_refused call refusal takes now (subst (λ (s : Stop). IsNone one_document call.source_was call.source_now s) is none)) wrote_it
+
+pub fault_told : {T : Type 0} (call : Call) (old new : SinkModel) (why : Stop) (status : Status) (wrote : Result T WriteStop)
+    → why ≡ stop.ReadFault → status ≡ settled wrote ReadFault → WriteAll old new fault_line wrote
+    → intake_in call.words ≡ Some one_document → call.machine_now ≡ call.machine_was
+    → IsNone one_document call.source_was call.source_now why → Meets call old new status
+fault_told {T} call old new why status wrote is said_so wrote_it takes now none =
+    told call old new not_read wrote ReadFault fault_line status said_so refl refl
+    (fault_ends call takes now (subst (λ (s : Stop). IsNone one_document call.source_was call.source_now s) is none)) wrote_it
+
+pub memory_told : (call : Call) (sink : SinkModel) (why : Stop) → why ≡ stop.NoMemory → intake_in call.words ≡ Some one_document
+    → call.machine_now ≡ call.machine_was → IsNone one_document call.source_was call.source_now why → Meets call sink sink NoMemory
+memory_told call sink why is takes now none =
+    no_memory_yet call sink takes now (subst (λ (s : Stop). IsNone one_document call.source_was call.source_now s) is none)
+
+-- ---- a document is refused
+
+pub document_told : {T : Type 0} (call : Call) (old new : SinkModel) (document : Document) (why : Refuse) (refusal : Refusal)
+    (copied : Option Document) (status : Status) (wrote : Result T WriteStop) → why ≡ refuse.Refused refusal → copied ≡ Some document
+    → status ≡ settled wrote (Refused refusal) → WriteAll old new (refusal_line copied refusal) wrote
+    → intake_in call.words ≡ Some one_document → call.machine_now ≡ call.machine_was
+    → IsRead one_document call.source_was call.source_now document → IsRefusedBy one_document document why → Meets call old new status
+document_told {T} call old new document why refusal copied status wrote is copy said_so wrote_it takes now read refuses =
+    told call old new (refused (Some document) refusal) wrote (Refused refusal) (refusal_line copied refusal) status said_so refl
+    (ap (λ (d : Option Document). refusal_line d refusal) copy)
+    (document_refused call document refusal takes now read (subst (λ (r : Refuse). IsRefusedBy one_document document r) is refuses))
+    wrote_it
+
+-- ---- a document is accepted
+
+pub said_told : {T : Type 0} (call : Call) (old new : SinkModel) (text_of : Accepted → List ℕ) (document : Document) (script : List Fault)
+    (text : List ℕ) (status : Status) (wrote : Result T WriteStop) → deed_in call.words ≡ Some (says one_document text_of)
+    → (read : IsRead one_document call.source_was call.source_now document) → Passes document script
+    → call.machine_now ≡ call.machine_was → text ≡ text_of (input_of document script read) → status ≡ settled wrote Done
+    → WriteAll old new text wrote → Meets call old new status
+said_told {T} call old new text_of document script text status wrote asked read passes now spells said_so wrote_it =
+    told call old new (said (text_of (input_of document script read))) wrote Done text status said_so refl spells
+    (said_ends call text_of document script asked read passes now) wrote_it
+
+pub unbuilt_told : {T : Type 0} (call : Call) (old new : SinkModel) (with_record : Bool) (document : Document) (script : List Fault)
+    (status : Status) (wrote : Result T WriteStop) → deed_in call.words ≡ Some (runs one_document with_record)
+    → IsRead one_document call.source_was call.source_now document → Passes document script → (IsBuilt document.tree → ⊥)
+    → call.machine_now ≡ call.machine_was → status ≡ settled wrote NotBuilt → WriteAll old new not_built_line wrote
+    → Meets call old new status
+unbuilt_told {T} call old new with_record document script status wrote asked read passes unbuilt now said_so wrote_it =
+    told call old new not_built wrote NotBuilt not_built_line status said_so refl refl
+    (unbuilt_ends call with_record document script asked read passes unbuilt now) wrote_it
+
+pub ran_told : {T : Type 0} (call : Call) (old new : SinkModel) (with_record : Bool) (document : Document) (script : List Fault)
+    (cause : Option Cause) (given status : Status) (wrote : Result T WriteStop) → deed_in call.words ≡ Some (runs one_document with_record)
+    → IsRead one_document call.source_was call.source_now document → Passes document script → IsBuilt document.tree
+    → HoldsRun document script call.machine_now → cause ≡ cause_in document.tree script → given ≡ status_by cause
+    → status ≡ settled wrote given → WriteAll old new (report_of with_record document script) wrote → Meets call old new status
+ran_told {T} call old new with_record document script cause given status wrote asked read passes built holds ending by said_so wrote_it =
+    told call old new (ran with_record (input_of document script read)) wrote given (report_of with_record document script) status said_so
+    (by ∙ ap status_by ending) refl (ran_ends call with_record document script asked read passes built holds) wrote_it
+
+-- ---- no input
+
+pub usage_told : {T : Type 0} (call : Call) (old new : SinkModel) (status : Status) (wrote : Result T WriteStop)
+    → deed_in call.words ≡ None → call.source_now ≡ call.source_was → call.machine_now ≡ call.machine_was
+    → status ≡ settled wrote Usage → WriteAll old new usage_line wrote → Meets call old new status
+usage_told {T} call old new status wrote asked source machine said_so wrote_it =
+    told call old new no_command wrote Usage usage_line status said_so refl refl (usage_ends call asked source machine) wrote_it
+
+pub made_told : {T : Type 0} (call : Call) (old new : SinkModel) (text : List ℕ) (status : Status) (wrote : Result T WriteStop)
+    → deed_in call.words ≡ Some (makes text) → call.source_now ≡ call.source_was → call.machine_now ≡ call.machine_was
+    → status ≡ settled wrote Done → WriteAll old new text wrote → Meets call old new status
+made_told {T} call old new text status wrote asked source machine said_so wrote_it =
+    told call old new (made text) wrote Done text status said_so refl refl (made_ends call text asked source machine) wrote_it

@@ -1,0 +1,23 @@
+use Rattle.std.proofs.Common.{refl}
+use Rattle.cd_app.specs.Deeds.{one_document}
+use Rattle.cd_app.specs.Calls.{call_of}
+use Rattle.cd_app.specs.Parts.{deed_for}
+use Rattle.cd_app.proofs.CallLemmas.{takes_by, action_takes}
+use Rattle.cd_app.proofs.actions.act.Goals as goal
+
+pub judge-requires-clause-well : goal.judge-requires-clause-well
+judge-requires-clause-well g c κs within = c.a_document_is_well_read.ensures c.in-Ok.ensures.bytes c.in-Ok.document c.in-Ok.ensures.read
+
+pub returns-in-Ok : goal.returns-in-Ok
+returns-in-Ok g c =
+    λ words asked.
+    c.judge.ensures
+    (call_of words (g.S.Source.model c.args.source.now) (g.S.Source.model c.receive.new.source) (g.F.Field.model c.args.machine.now) (g.F.Field.model c.judge.new.machine))
+    asked c.in-Ok.ensures refl refl
+
+pub returns-in-Err : goal.returns-in-Err
+returns-in-Err g c =
+    λ words asked.
+    c.tell.ensures
+    (call_of words (g.S.Source.model c.args.source.now) (g.S.Source.model c.receive.new.source) (g.F.Field.model c.args.machine.now) (g.F.Field.model c.args.machine.now))
+    (takes_by words (deed_for c.args.action) one_document asked (action_takes c.args.action)) refl c.in-Err.ensures
