@@ -271,3 +271,7 @@ item_as_long {A} {B} items others (Some i) d same some =
 pub has_flags : (slots : List Slot) (words : List ℕ) (away : List Bool) (r : Range) → length words ≡ length away → HasItems slots words r
     → HasItems slots away r
 has_flags slots words away r same known q h = item_as_long words away (index_of slots q) false same (known q h)
+
+pub taken_long : (words run : List ℕ) (n first : ℕ) → run ≡ take n (drop first words) → first + n ≤ length words → length run ≡ n
+taken_long words run n first is room =
+    ap length is ∙ (let l : length (take n (drop first words)) ≡ n = omega (arith, length-take n (drop first words), length-drop first words) in l)

@@ -50,6 +50,17 @@ pub trait Field: Sized + Send + Drop {
         }
     }
 
+    /// The words of a range in order, without a copy where the machine has them in one list; else they are read into the room,
+    /// which has that length. A range may be empty. It takes no memory.
+    fn run<'a>(&'a self, range: Range, room: &'a mut [u64]) -> &'a [u64]
+        requires present { ArePresent (model self.now) (range ∷ []) }
+        requires long { length room.old ≡ length_of range }
+        ensures { result.now ≡ words_in (model self.now).words range }
+    {
+        self.read_run(range, room);
+        room
+    }
+
     /// Changes the words of a range to those of a list of that length. A range may be empty. It takes no memory.
     fn write_run(&mut self, range: Range, words: &[u64])
         requires present { ArePresent (model self.old) (range ∷ []) }

@@ -103,15 +103,27 @@ impl FlatWords {
 
     /// The words of a range of places that have one, in order.
     #[inline(always)]
+    pub(crate) fn run(&self, range: Range) -> &[u64]
+        requires { (q : _) → in_range range q ≡ true → IsSome (flat_words self.now.slots.items self.now.words.items q) }
+        ensures words { result.now ≡ words_in (flat_words self.now.slots.items self.now.words.items) range }
+        ensures long { length result.now ≡ length_of range }
+    {
+        if range.low < range.high {
+            let first = self.run_index(range);
+            items(&self.words, first, (range.high - range.low) as usize)
+        } else {
+            &[]
+        }
+    }
+
+    /// Puts the words of a range of places that have one into a list, in order.
+    #[inline(always)]
     pub(crate) fn read_run(&self, range: Range, words: &mut [u64])
         requires known { (q : _) → in_range range q ≡ true → IsSome (flat_words self.now.slots.items self.now.words.items q) }
         requires long { length words.old ≡ length_of range }
         ensures { words.new ≡ words_in (flat_words self.now.slots.items self.now.words.items) range }
     {
-        if range.low < range.high {
-            let first = self.run_index(range);
-            words.copy_from_slice(items(&self.words, first, words.len()));
-        }
+        words.copy_from_slice(self.run(range));
     }
 
     /// Changes the words of a range of places that have one. Whether they are away stays.

@@ -81,6 +81,10 @@ impl Field for ScriptField {
         self.words.read_run(range, words);
     }
 
+    fn run<'a>(&'a self, range: Range, _room: &'a mut [u64]) -> &'a [u64] {
+        self.words.run(range)
+    }
+
     fn write_run(&mut self, range: Range, words: &[u64]) {
         self.words.write_run(range, words);
     }

@@ -1,7 +1,7 @@
 -- Runs of words of a range: where they are present, and what is read of them.
 use Rattle.std.proofs.Common.{◌≡◌, ℕ, ◌+◌, ◌-◌, ◌<◌, ◌≤◌, Bool, true, false, ◌||◌, List, [], ◌∷◌, map, length, get_or, refl, ap, sym, subst, ◌∙◌, arith}
 use Rattle.std.specs.List.{range_with_len}
-use Rattle.std.proofs.lemmas.List.FromFn.{get_or-map-range_with_len}
+use Rattle.std.proofs.lemmas.List.FromFn.{length-map-range_with_len, get_or-map-range_with_len}
 use Rattle.cd_base.specs.declared.place.Place.{Place}
 use Rattle.cd_base.specs.declared.place.Range.{Range}
 use Rattle.cd_base.specs.Words.{Words, word_at, in_range}
@@ -39,3 +39,9 @@ run_word w r run at n words is read j short =
     let inside : j < length_of made = omega arith in
     ap (λ (v : List ℕ). get_or v j 0) (read ∙ ap (words_in w) is)
     ∙ get_or-map-range_with_len f made.low (length_of made) j (r.low + (at + j)) 0 inside (omega arith)
+
+pub words_long : (w : Words) (r run : Range) (at n : ℕ) (words : List ℕ) → run ≡ run_of r at n → words ≡ words_in w run → length words ≡ n
+words_long w r run at n words is read =
+    ap length read
+    ∙ length-map-range_with_len (λ i. word_at w (record { region = run.region; index = i })) run.low (length_of run)
+    ∙ sym (run_long r run at n is)

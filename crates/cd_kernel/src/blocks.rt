@@ -6,18 +6,19 @@ ghost use Rattle.cd_kernel.specs.Computing.{IsDirect, IsHere};
 
 use crate::lists::{fill_with, join, weigh};
 use crate::totals::{greatest_word, sum_of_all, sum_of_products};
-use crate::words::{read_from, read_nth};
+use crate::words::{read_from, read_nth, run_from};
 use cd_base::Range;
 use cd_field::Field;
 use cd_tree::Op;
 
-/// The words that an operation gives to its destination's from one on, as many as the list takes. A second list is there
-/// to read into.
+/// The words that an operation gives to its destination's from one on, as many as the list takes. Two lists are
+/// there to read into.
 pub(crate) fn block_words<F: Field>(
     op: &Op,
     at: u32,
     words: &mut [u64],
     more: &mut [u64],
+    other: &mut [u64],
     field: &F,
 )
     requires direct { IsDirect op.now }
@@ -25,16 +26,16 @@ pub(crate) fn block_words<F: Field>(
     requires shape { FitsShape op.now }
     requires here { All (IsHere (F.model field.now)) (op_reads op.now) }
     requires inside { at + length words.old ≤ length_of (op_writes op.now) }
-    requires room { length words.old + 2 ≤ length more.old }
+    requires room { (length words.old + 2 ≤ length more.old) × (length words.old ≤ length other.old) }
     ensures { (j : ℕ) → j < length words.new → slice_index words.new j ≡ column op.now (F.model field.now).words (at + j) }
 {
     match *op {
         Op::Fill(_, word) => fill_with(words, word),
         Op::Copy(_, x) => read_from(x, at, words, field),
-        Op::Add(_, x, z) => sums(x, z, at, words, more, field),
-        Op::Sub(_, x, z) => differences(x, z, at, words, more, field),
-        Op::Mul(_, x, z) => products(x, z, at, words, more, field),
-        Op::Axpy(d, factor, x) => multiples_added(d, factor, x, at, words, more, field),
+        Op::Add(_, x, z) => sums(x, z, at, words, more, other, field),
+        Op::Sub(_, x, z) => differences(x, z, at, words, more, other, field),
+        Op::Mul(_, x, z) => products(x, z, at, words, more, other, field),
+        Op::Axpy(d, factor, x) => multiples_added(d, factor, x, at, words, more, other, field),
         Op::Scan(..) => unreachable!(),
         Op::Sum(_, x) => fill_with(words, sum_of_all(x, field)),
         Op::Dot(_, x, z) => fill_with(words, sum_of_products(x, z, field)),
@@ -52,25 +53,34 @@ fn from_two<F: Field, G: Fn(u64, u64) -> u64>(
     at: u32,
     words: &mut [u64],
     more: &mut [u64],
+    other: &mut [u64],
     field: &F,
     give: G,
 )
     requires inside { (at + length words.old ≤ length_of x) × (at + length words.old ≤ length_of z) }
     requires here { IsHere (F.model field.now) x × IsHere (F.model field.now) z }
-    requires room { length words.old ≤ length more.old }
+    requires room { (length words.old ≤ length more.old) × (length words.old ≤ length other.old) }
     requires call { G.IsAlwaysCallable give }
     ensures { (j : ℕ) → j < length words.new → G.post give (nth_word (F.model field.now).words x (at + j)) (nth_word (F.model field.now).words z (at + j)) (slice_index words.new j) }
 {
-    let more = &mut more[..words.len()];
-    read_from(x, at, words, field);
-    read_from(z, at, more, field);
-    join(words, more, give);
+    let count = words.len();
+    let xs = run_from(x, at, &mut more[..count], field);
+    let zs = run_from(z, at, &mut other[..count], field);
+    join(words, xs, zs, give);
 }
 
-fn sums<F: Field>(x: Range, z: Range, at: u32, words: &mut [u64], more: &mut [u64], field: &F)
+fn sums<F: Field>(
+    x: Range,
+    z: Range,
+    at: u32,
+    words: &mut [u64],
+    more: &mut [u64],
+    other: &mut [u64],
+    field: &F,
+)
     requires inside { (at + length words.old ≤ length_of x) × (at + length words.old ≤ length_of z) }
     requires here { IsHere (F.model field.now) x × IsHere (F.model field.now) z }
-    requires room { length words.old ≤ length more.old }
+    requires room { (length words.old ≤ length more.old) × (length words.old ≤ length other.old) }
     ensures { (j : ℕ) → j < length words.new → slice_index words.new j ≡ word_of (nth_word (F.model field.now).words x (at + j) + nth_word (F.model field.now).words z (at + j)) }
 {
     from_two(
@@ -79,6 +89,7 @@ fn sums<F: Field>(x: Range, z: Range, at: u32, words: &mut [u64], more: &mut [u6
         at,
         words,
         more,
+        other,
         field,
         |a: u64, b: u64| -> u64
             ensures { result ≡ word_of (a + b) }
@@ -92,11 +103,12 @@ fn differences<F: Field>(
     at: u32,
     words: &mut [u64],
     more: &mut [u64],
+    other: &mut [u64],
     field: &F,
 )
     requires inside { (at + length words.old ≤ length_of x) × (at + length words.old ≤ length_of z) }
     requires here { IsHere (F.model field.now) x × IsHere (F.model field.now) z }
-    requires room { length words.old ≤ length more.old }
+    requires room { (length words.old ≤ length more.old) × (length words.old ≤ length other.old) }
     ensures { (j : ℕ) → j < length words.new → slice_index words.new j ≡ word_of (nth_word (F.model field.now).words x (at + j) + (2 ^ 64 - nth_word (F.model field.now).words z (at + j))) }
 {
     from_two(
@@ -105,6 +117,7 @@ fn differences<F: Field>(
         at,
         words,
         more,
+        other,
         field,
         |a: u64, b: u64| -> u64
             ensures { result ≡ word_of (a + (2 ^ 64 - b)) }
@@ -112,10 +125,18 @@ fn differences<F: Field>(
     );
 }
 
-fn products<F: Field>(x: Range, z: Range, at: u32, words: &mut [u64], more: &mut [u64], field: &F)
+fn products<F: Field>(
+    x: Range,
+    z: Range,
+    at: u32,
+    words: &mut [u64],
+    more: &mut [u64],
+    other: &mut [u64],
+    field: &F,
+)
     requires inside { (at + length words.old ≤ length_of x) × (at + length words.old ≤ length_of z) }
     requires here { IsHere (F.model field.now) x × IsHere (F.model field.now) z }
-    requires room { length words.old ≤ length more.old }
+    requires room { (length words.old ≤ length more.old) × (length words.old ≤ length other.old) }
     ensures { (j : ℕ) → j < length words.new → slice_index words.new j ≡ word_of (nth_word (F.model field.now).words x (at + j) * nth_word (F.model field.now).words z (at + j)) }
 {
     from_two(
@@ -124,6 +145,7 @@ fn products<F: Field>(x: Range, z: Range, at: u32, words: &mut [u64], more: &mut
         at,
         words,
         more,
+        other,
         field,
         |a: u64, b: u64| -> u64
             ensures { result ≡ word_of (a * b) }
@@ -138,11 +160,12 @@ fn multiples_added<F: Field>(
     at: u32,
     words: &mut [u64],
     more: &mut [u64],
+    other: &mut [u64],
     field: &F,
 )
     requires inside { (at + length words.old ≤ length_of d) × (at + length words.old ≤ length_of x) }
     requires here { IsHere (F.model field.now) d × IsHere (F.model field.now) x }
-    requires room { length words.old ≤ length more.old }
+    requires room { (length words.old ≤ length more.old) × (length words.old ≤ length other.old) }
     ensures { (j : ℕ) → j < length words.new → slice_index words.new j ≡ word_of (nth_word (F.model field.now).words d (at + j) + factor * nth_word (F.model field.now).words x (at + j)) }
 {
     from_two(
@@ -151,6 +174,7 @@ fn multiples_added<F: Field>(
         at,
         words,
         more,
+        other,
         field,
         |a: u64, b: u64| -> u64
             ensures { result ≡ word_of (a + factor * b) }
@@ -174,9 +198,9 @@ fn weighted<F: Field>(
     requires room { length words.old + 2 ≤ length more.old }
     ensures { (j : ℕ) → j < length words.new → slice_index words.new j ≡ word_of (a * nth_word (F.model field.now).words x (at + j) + b * nth_word (F.model field.now).words x (at + j + 1) + c * nth_word (F.model field.now).words x (at + j + 2)) }
 {
-    let more = &mut more[..words.len() + 2];
-    read_from(x, at, more, field);
-    weigh(a, b, c, words, more);
+    let count = words.len() + 2;
+    let xs = run_from(x, at, &mut more[..count], field);
+    weigh(a, b, c, words, xs);
 }
 
 // The rows of a sparse product from one on.

@@ -3,15 +3,15 @@ ghost use Rattle.std.specs.Prelude.{◌≡◌, ℕ, ◌+◌, ◌*◌, ◌<◌, l
 ghost use Rattle.cd_base.specs.Words.{word_of};
 ghost use Rattle.cd_tree.specs.Operations.{greatest, total};
 
-/// Each word becomes what the function gives for it and the word of another list at its index.
+/// Each word becomes what the function gives for the words of two other lists at its index.
 #[inline(always)]
-pub(crate) fn join<G: Fn(u64, u64) -> u64>(words: &mut [u64], more: &[u64], give: G)
-    requires same { length words.old ≡ length more.now }
+pub(crate) fn join<G: Fn(u64, u64) -> u64>(words: &mut [u64], xs: &[u64], zs: &[u64], give: G)
+    requires same { (length words.old ≡ length xs.now) × (length words.old ≡ length zs.now) }
     requires call { G.IsAlwaysCallable give }
-    ensures { (j : ℕ) → j < length words.new → G.post give (slice_index words.old j) (slice_index more.now j) (slice_index words.new j) }
+    ensures { (j : ℕ) → j < length words.new → G.post give (slice_index xs.now j) (slice_index zs.now j) (slice_index words.new j) }
 {
     for i in 0..words.len() {
-        words[i] = give(words[i], more[i]);
+        words[i] = give(xs[i], zs[i]);
     }
 }
 
@@ -56,14 +56,15 @@ pub(crate) fn greatest_with(most: u64, words: &[u64]) -> u64
     most
 }
 
-/// Each word becomes the sum that goes on up to it. Gives the last.
-pub(crate) fn sum_up(sum: u64, words: &mut [u64]) -> u64
-    ensures each { (j : ℕ) → j < length words.new → slice_index words.new j ≡ word_of (sum + total (slice_index words.old) (j + 1)) }
-    ensures last { result ≡ word_of (sum + total (slice_index words.old) (length words.old)) }
+/// Each word becomes a sum that goes on over another list's words up to its index. Gives the last.
+pub(crate) fn sum_up(sum: u64, words: &mut [u64], xs: &[u64]) -> u64
+    requires { length words.old ≡ length xs.now }
+    ensures each { (j : ℕ) → j < length words.new → slice_index words.new j ≡ word_of (sum + total (slice_index xs.now) (j + 1)) }
+    ensures last { result ≡ word_of (sum + total (slice_index xs.now) (length xs.now)) }
 {
     let mut sum = sum;
     for i in 0..words.len() {
-        sum = sum.wrapping_add(words[i]);
+        sum = sum.wrapping_add(xs[i]);
         words[i] = sum;
     }
     sum

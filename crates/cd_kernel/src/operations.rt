@@ -8,7 +8,7 @@ ghost use Rattle.cd_kernel.specs.Computing.{computed, run_of, IsDirect, IsHere};
 use crate::blocks::block_words;
 use crate::lists::{fill_with, sum_up};
 use crate::totals::{BLOCK, block_length};
-use crate::words::{read_from, write_from};
+use crate::words::{run_from, write_from};
 use cd_base::Range;
 use cd_field::Field;
 use cd_tree::{Op, laws, writes};
@@ -49,26 +49,41 @@ fn write_columns<F: Field>(op: &Op, field: &mut F)
     let count = d.high - d.low;
     let mut words = [0; BLOCK];
     let mut more = [0; BLOCK + 2];
+    let mut other = [0; BLOCK];
     let mut at = 0;
     while at < count {
         let length = block_length(at, count);
-        write_block(op, at, &mut words[..length as usize], &mut more, field);
+        write_block(
+            op,
+            at,
+            &mut words[..length as usize],
+            &mut more,
+            &mut other,
+            field,
+        );
         at += length;
     }
 }
 
 // Writes the words of the destination from one on, as many as the list takes.
-fn write_block<F: Field>(op: &Op, at: u32, words: &mut [u64], more: &mut [u64], field: &mut F)
+fn write_block<F: Field>(
+    op: &Op,
+    at: u32,
+    words: &mut [u64],
+    more: &mut [u64],
+    other: &mut [u64],
+    field: &mut F,
+)
     requires direct { IsDirect op.now }
     requires full { All IsFull (op_writes op.now ∷ op_reads op.now) }
     requires shape { FitsShape op.now }
     requires here { All (IsHere (F.model field.old)) (op_writes op.now ∷ op_reads op.now) }
     requires inside { at + length words.old ≤ length_of (op_writes op.now) }
-    requires room { length words.old + 2 ≤ length more.old }
+    requires room { (length words.old + 2 ≤ length more.old) × (length words.old ≤ length other.old) }
     ensures values { (j : ℕ) → j < length words.new → slice_index words.new j ≡ column op.now (F.model field.old).words (at + j) }
     ensures written { F.model field.new ≡ wrote_run (F.model field.old) (run_of (op_writes op.now) at (length words.new)) words.new }
 {
-    block_words(op, at, words, more, field);
+    block_words(op, at, words, more, other, field);
     write_from(writes(op), at, words, field);
 }
 
@@ -98,11 +113,13 @@ fn scan<F: Field>(d: Range, x: Range, field: &mut F)
 {
     let count = d.high - d.low;
     let mut words = [0; BLOCK];
+    let mut room = [0; BLOCK];
     let mut sum = 0u64;
     let mut at = 0;
     while at < count {
         let length = block_length(at, count);
-        sum = scan_block(sum, d, x, at, &mut words[..length as usize], field);
+        let end = length as usize;
+        sum = scan_block(sum, d, x, at, &mut words[..end], &mut room[..end], field);
         at += length;
     }
 }
@@ -114,16 +131,17 @@ fn scan_block<F: Field>(
     x: Range,
     at: u32,
     words: &mut [u64],
+    room: &mut [u64],
     field: &mut F,
 ) -> u64
+    requires same { length words.old ≡ length room.old }
     requires inside { (at + length words.old ≤ length_of d) × (at + length words.old ≤ length_of x) }
     requires here { IsHere (F.model field.old) d × IsHere (F.model field.old) x }
     ensures values { (j : ℕ) → j < length words.new → slice_index words.new j ≡ word_of (sum + total (λ i. nth_word (F.model field.old).words x (at + i)) (j + 1)) }
     ensures written { F.model field.new ≡ wrote_run (F.model field.old) (run_of d at (length words.new)) words.new }
     ensures last { result ≡ word_of (sum + total (λ i. nth_word (F.model field.old).words x (at + i)) (length words.new)) }
 {
-    read_from(x, at, words, field);
-    let last = sum_up(sum, words);
+    let last = sum_up(sum, words, run_from(x, at, room, field));
     write_from(d, at, words, field);
     last
 }

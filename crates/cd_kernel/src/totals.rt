@@ -5,7 +5,7 @@ ghost use Rattle.cd_tree.specs.Operations.{greatest, length_of, nth_word, total}
 ghost use Rattle.cd_kernel.specs.Computing.{IsHere};
 
 use crate::lists::{add_all, add_products, greatest_with};
-use crate::words::read_from;
+use crate::words::run_from;
 use cd_base::Range;
 use cd_field::Field;
 
@@ -28,24 +28,23 @@ pub(crate) fn sum_of_all<F: Field>(x: Range, field: &F) -> u64
     ensures { result ≡ word_of (total (nth_word (F.model field.now).words x) (length_of x)) }
 {
     let count = x.high.saturating_sub(x.low);
-    let mut words = [0; BLOCK];
+    let mut room = [0; BLOCK];
     let mut sum = 0u64;
     let mut at = 0;
     while at < count {
         let length = block_length(at, count);
-        sum = add_block(sum, x, at, &mut words[..length as usize], field);
+        sum = add_block(sum, x, at, &mut room[..length as usize], field);
         at += length;
     }
     sum
 }
 
-fn add_block<F: Field>(sum: u64, x: Range, at: u32, words: &mut [u64], field: &F) -> u64
-    requires inside { at + length words.old ≤ length_of x }
+fn add_block<F: Field>(sum: u64, x: Range, at: u32, room: &mut [u64], field: &F) -> u64
+    requires inside { at + length room.old ≤ length_of x }
     requires here { IsHere (F.model field.now) x }
-    ensures { result ≡ word_of (sum + total (λ j. nth_word (F.model field.now).words x (at + j)) (length words.old)) }
+    ensures { result ≡ word_of (sum + total (λ j. nth_word (F.model field.now).words x (at + j)) (length room.old)) }
 {
-    read_from(x, at, words, field);
-    add_all(sum, words)
+    add_all(sum, run_from(x, at, room, field))
 }
 
 /// The sum of the products of the words of two ranges.
@@ -55,14 +54,14 @@ pub(crate) fn sum_of_products<F: Field>(x: Range, z: Range, field: &F) -> u64
     ensures { result ≡ word_of (total (λ j. nth_word (F.model field.now).words x j * nth_word (F.model field.now).words z j) (length_of x)) }
 {
     let count = x.high.saturating_sub(x.low);
-    let mut words = [0; BLOCK];
-    let mut more = [0; BLOCK];
+    let mut room = [0; BLOCK];
+    let mut other = [0; BLOCK];
     let mut sum = 0u64;
     let mut at = 0;
     while at < count {
         let length = block_length(at, count);
         let end = length as usize;
-        sum = add_product_block(sum, x, z, at, &mut words[..end], &mut more[..end], field);
+        sum = add_product_block(sum, x, z, at, &mut room[..end], &mut other[..end], field);
         at += length;
     }
     sum
@@ -73,18 +72,18 @@ fn add_product_block<F: Field>(
     x: Range,
     z: Range,
     at: u32,
-    words: &mut [u64],
-    more: &mut [u64],
+    room: &mut [u64],
+    other: &mut [u64],
     field: &F,
 ) -> u64
-    requires inside { (at + length words.old ≤ length_of x) × (at + length more.old ≤ length_of z) }
-    requires same { length words.old ≡ length more.old }
+    requires inside { (at + length room.old ≤ length_of x) × (at + length other.old ≤ length_of z) }
+    requires same { length room.old ≡ length other.old }
     requires here { IsHere (F.model field.now) x × IsHere (F.model field.now) z }
-    ensures { result ≡ word_of (sum + total (λ j. nth_word (F.model field.now).words x (at + j) * nth_word (F.model field.now).words z (at + j)) (length words.old)) }
+    ensures { result ≡ word_of (sum + total (λ j. nth_word (F.model field.now).words x (at + j) * nth_word (F.model field.now).words z (at + j)) (length room.old)) }
 {
-    read_from(x, at, words, field);
-    read_from(z, at, more, field);
-    add_products(sum, words, more)
+    let xs = run_from(x, at, room, field);
+    let zs = run_from(z, at, other, field);
+    add_products(sum, xs, zs)
 }
 
 /// The greatest word of a range.
@@ -93,22 +92,21 @@ pub(crate) fn greatest_word<F: Field>(x: Range, field: &F) -> u64
     ensures { result ≡ greatest (nth_word (F.model field.now).words x) (length_of x) }
 {
     let count = x.high.saturating_sub(x.low);
-    let mut words = [0; BLOCK];
+    let mut room = [0; BLOCK];
     let mut most = 0u64;
     let mut at = 0;
     while at < count {
         let length = block_length(at, count);
-        most = greatest_in_block(most, x, at, &mut words[..length as usize], field);
+        most = greatest_in_block(most, x, at, &mut room[..length as usize], field);
         at += length;
     }
     most
 }
 
-fn greatest_in_block<F: Field>(most: u64, x: Range, at: u32, words: &mut [u64], field: &F) -> u64
-    requires inside { at + length words.old ≤ length_of x }
+fn greatest_in_block<F: Field>(most: u64, x: Range, at: u32, room: &mut [u64], field: &F) -> u64
+    requires inside { at + length room.old ≤ length_of x }
     requires here { IsHere (F.model field.now) x }
-    ensures { result ≡ max most (greatest (λ j. nth_word (F.model field.now).words x (at + j)) (length words.old)) }
+    ensures { result ≡ max most (greatest (λ j. nth_word (F.model field.now).words x (at + j)) (length room.old)) }
 {
-    read_from(x, at, words, field);
-    greatest_with(most, words)
+    greatest_with(most, run_from(x, at, room, field))
 }

@@ -27,13 +27,28 @@ fn nth(range: Range, i: u32) -> Place
     }
 }
 
-/// The words of a range from one on, as many as the list takes.
+/// The words of a range from one on, as many as the list takes, into it.
 pub(crate) fn read_from<F: Field>(range: Range, at: u32, words: &mut [u64], field: &F)
     requires inside { at + length words.old ≤ length_of range }
     requires here { IsHere (F.model field.now) range }
     ensures { (j : ℕ) → j < length words.new → slice_index words.new j ≡ nth_word (F.model field.now).words range (at + j) }
 {
-    field.read_run(run(range, at, words.len() as u32), words);
+    field.read_run(part(range, at, words.len() as u32), words);
+}
+
+/// The words of a range from one on, as many as the room has.
+pub(crate) fn run_from<'a, F: Field>(
+    range: Range,
+    at: u32,
+    room: &'a mut [u64],
+    field: &'a F,
+) -> &'a [u64]
+    requires inside { at + length room.old ≤ length_of range }
+    requires here { IsHere (F.model field.now) range }
+    ensures long { length result.now ≡ length room.old }
+    ensures words { (j : ℕ) → j < length result.now → slice_index result.now j ≡ nth_word (F.model field.now).words range (at + j) }
+{
+    field.run(part(range, at, room.len() as u32), room)
 }
 
 /// Changes the words of a range from one on to those of a list.
@@ -42,11 +57,11 @@ pub(crate) fn write_from<F: Field>(range: Range, at: u32, words: &[u64], field: 
     requires here { IsHere (F.model field.old) range }
     ensures { F.model field.new ≡ wrote_run (F.model field.old) (run_of range at (length words.now)) words.now }
 {
-    field.write_run(run(range, at, words.len() as u32), words);
+    field.write_run(part(range, at, words.len() as u32), words);
 }
 
 // So many places of a range from one on.
-fn run(range: Range, at: u32, count: u32) -> Range
+fn part(range: Range, at: u32, count: u32) -> Range
     requires { at + count ≤ length_of range }
     ensures { result ≡ run_of range at count }
 {

@@ -7,12 +7,12 @@ use Rattle.cd_kernel.proofs.operations.scan_block.Goals as goal
 pub returns-clause-values : goal.returns-clause-values
 returns-clause-values g c j short =
     let w : Words = (g.F.Field.model c.args.field.now).words in
-    sum_read c.args.sum (get_or c.sum_up-last.new.words j 0) (j + 1) (j + 1) (λ (i : ℕ). get_or c.read_from.new.words i 0)
-    (λ (i : ℕ). nth_word w c.args.x (c.args.at + i)) (λ i before. c.read_from.ensures i (omega arith)) (c.sum_up-last.ensures.each j short) refl
+    sum_read c.args.sum (get_or c.sum_up-last.new.words j 0) (j + 1) (j + 1) (λ (i : ℕ). get_or c.run_from.result.now i 0)
+    (λ (i : ℕ). nth_word w c.args.x (c.args.at + i)) (λ i before. c.run_from.ensures.words i (omega arith)) (c.sum_up-last.ensures.each j short) refl
 
 pub returns-clause-last : goal.returns-clause-last
 returns-clause-last g c =
     let w : Words = (g.F.Field.model c.args.field.now).words in
-    sum_read c.args.sum c.sum_up-last.result (length c.read_from.new.words) (length c.sum_up-last.new.words)
-    (λ (i : ℕ). get_or c.read_from.new.words i 0) (λ (i : ℕ). nth_word w c.args.x (c.args.at + i))
-    c.read_from.ensures c.sum_up-last.ensures.last (omega arith)
+    sum_read c.args.sum c.sum_up-last.result (length c.run_from.result.now) (length c.sum_up-last.new.words)
+    (λ (i : ℕ). get_or c.run_from.result.now i 0) (λ (i : ℕ). nth_word w c.args.x (c.args.at + i))
+    c.run_from.ensures.words c.sum_up-last.ensures.last (omega arith)

@@ -5,6 +5,6 @@ use Rattle.cd_kernel.proofs.totals.add_block.Goals as goal
 
 pub returns : goal.returns
 returns g c =
-    sum_read c.args.sum c.add_all.result (length c.read_from.new.words) (length c.args.words.now) (λ (j : ℕ). get_or c.read_from.new.words j 0)
+    sum_read c.args.sum c.add_all.result (length c.run_from.result.now) (length c.args.room.now) (λ (j : ℕ). get_or c.run_from.result.now j 0)
     (λ (j : ℕ). nth_word (g.F.Field.model c.args.field.now).words c.args.x (c.args.at + j))
-    c.read_from.ensures c.add_all.ensures (omega arith)
+    c.run_from.ensures.words c.add_all.ensures (omega arith)

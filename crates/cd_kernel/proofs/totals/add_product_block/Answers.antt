@@ -7,8 +7,8 @@ use Rattle.cd_kernel.proofs.totals.add_product_block.Goals as goal
 pub returns : goal.returns
 returns g c =
     let w : Words = (g.F.Field.model c.args.field.now).words in
-    sum_read c.args.sum c.add_products.result (length c.read_from.new.words) (length c.args.words.now)
-    (λ (j : ℕ). get_or c.read_from.new.words j 0 * get_or c.read_from-2.new.words j 0)
+    sum_read c.args.sum c.add_products.result (length c.run_from-xs.result.now) (length c.args.room.now)
+    (λ (j : ℕ). get_or c.run_from-xs.result.now j 0 * get_or c.run_from-zs.result.now j 0)
     (λ (j : ℕ). nth_word w c.args.x (c.args.at + j) * nth_word w c.args.z (c.args.at + j))
-    (λ j short. ap₂ (λ (a b : ℕ). a * b) (c.read_from.ensures j short) (c.read_from-2.ensures j (omega arith)))
+    (λ j short. ap₂ (λ (a b : ℕ). a * b) (c.run_from-xs.ensures.words j short) (c.run_from-zs.ensures.words j (omega arith)))
     c.add_products.ensures (omega arith)
