@@ -40,7 +40,7 @@ CALLS = [
     (['check'], '', 3),
     (['read'], RUNNING, 0),
     (['read'], GROUPS, 0),
-    (['read'], EXHAUSTED, 1),
+    (['read'], EXHAUSTED, 0),
     (['lift'], GROUPS, 0),
     (['run'], RUNNING, 0),
     (['run'], EXHAUSTED, 1),
