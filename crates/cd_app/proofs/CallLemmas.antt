@@ -7,9 +7,7 @@ use Rattle.cd_tree.specs.declared.document.Document.{Document}
 use Rattle.cd_tree.specs.declared.document.Fault.{Fault}
 use Rattle.cd_tree.specs.declared.event.Cause.{Cause}
 use Rattle.cd_tree.specs.declared.refusal.Refusal.{Refusal}
-use Rattle.cd_tree.specs.declared.refusal.Refuse.{Refuse}
-use Rattle.cd_tree.specs.declared.refusal.Refuse.TheVariants as refuse
-use Rattle.cd_check.specs.Checking.{FirstRefusalOf, Passes, Checks}
+use Rattle.cd_check.specs.Checking.{FirstRefusalOf, Passes}
 use Rattle.cd_parse.specs.Reading.{parse}
 use Rattle.cd_field.specs.FieldModel.{FieldModel}
 use Rattle.cd_command.specs.declared.command.Command.{Command}
@@ -23,7 +21,7 @@ use Rattle.cd_app.specs.Running.{HoldsRun, IsBuilt}
 use Rattle.cd_app.specs.Deeds.{Intake, one_document, Accepted, Deed, makes, says, runs, deed_of, deed_in, intake_of, intake_in}
 use Rattle.cd_app.specs.Outcomes.{Input, whole, too_much, unread, Gave, AcceptsBytes, Outcome, no_command, made, not_read, refused, said, not_built, ran, Runs, ComesOfInput, ComesOf}
 use Rattle.cd_app.specs.Calls.{Call, call_of, Comes, Leaves, Ends, TookWithin, ComesToRun, RanOut, Meets}
-use Rattle.cd_app.specs.Parts.{deed_for, IsRead, IsNone, IsRefusedBy, Receives, ReadsBytes}
+use Rattle.cd_app.specs.Parts.{deed_for, IsRead, IsNone, Receives, ReadsBytes}
 
 -- ---- what the words ask for
 
@@ -52,11 +50,6 @@ pub action_takes : (to : Action) → intake_of (deed_for to) ≡ Some one_docume
 action_takes action.Check = refl
 action_takes action.Read = refl
 action_takes (action.Run with_record) = refl
-
--- what the checks refuse is refused
-pub checks_refuse : (document : Document) (why : Refuse) → Checks document (Err why) → IsRefusedBy one_document document why
-checks_refuse document (refuse.Refused refusal) first = first
-checks_refuse document refuse.NoMemory first = tt
 
 -- what comes of a deed comes of the words that ask for it
 pub comes_by : (call : Call) (deed : Option Deed) (outcome : Outcome) → deed_in call.words ≡ deed

@@ -1,5 +1,5 @@
 -- From what a part of the code wrote, and the status that it gave, to what the whole call does.
-use Rattle.std.proofs.Common.{◌≡◌, Bool, ℕ, List, Option, None, Some, Result, refl, ap, sym, subst, ◌∙◌}
+use Rattle.std.proofs.Common.{◌≡◌, Bool, ℕ, List, Option, None, Some, Result, Err, refl, ap, sym, subst, ◌∙◌}
 use Rattle.cd_base.specs.declared.sink.WriteStop.{WriteStop}
 use Rattle.cd_base.specs.Ends.{SinkModel, WriteAll}
 use Rattle.cd_tree.specs.declared.document.Document.{Document}
@@ -8,7 +8,7 @@ use Rattle.cd_tree.specs.declared.event.Cause.{Cause}
 use Rattle.cd_tree.specs.declared.refusal.Refusal.{Refusal}
 use Rattle.cd_tree.specs.declared.refusal.Refuse.{Refuse}
 use Rattle.cd_tree.specs.declared.refusal.Refuse.TheVariants as refuse
-use Rattle.cd_check.specs.Checking.{Passes}
+use Rattle.cd_check.specs.Checking.{Passes, Checks}
 use Rattle.cd_reading.specs.Through.{cause_in}
 use Rattle.cd_report.specs.Texts.{refusal_line, usage_line, fault_line, not_built_line}
 use Rattle.cd_app.specs.declared.receive.Stop.{Stop}
@@ -19,7 +19,7 @@ use Rattle.cd_app.specs.Running.{HoldsRun, IsBuilt, report_of}
 use Rattle.cd_app.specs.Deeds.{one_document, Accepted, makes, says, runs, deed_in, intake_in}
 use Rattle.cd_app.specs.Outcomes.{refused, not_read, said, not_built, ran, made, no_command, status_by}
 use Rattle.cd_app.specs.Calls.{Call, Meets}
-use Rattle.cd_app.specs.Parts.{IsRead, IsNone, IsRefusedBy, settled}
+use Rattle.cd_app.specs.Parts.{IsRead, IsNone, settled}
 use Rattle.cd_app.proofs.CallLemmas.{input_of, takes_by, none_refused, fault_ends, document_refused, said_ends, unbuilt_ends, ran_ends, usage_ends, made_ends, no_memory_yet, no_memory_for}
 use Rattle.cd_app.proofs.WriteLemmas.{told}
 
@@ -54,11 +54,11 @@ pub document_told : {T : Type 0} (call : Call) (old new : SinkModel) (document :
     (copied : Option Document) (status : Status) (wrote : Result T WriteStop) → why ≡ refuse.Refused refusal → copied ≡ Some document
     → status ≡ settled wrote (Refused refusal) → WriteAll old new (refusal_line copied refusal) wrote
     → intake_in call.words ≡ Some one_document → call.machine_now ≡ call.machine_was
-    → IsRead one_document call.source_was call.source_now document → IsRefusedBy one_document document why → Meets call old new status
+    → IsRead one_document call.source_was call.source_now document → Checks document (Err why) → Meets call old new status
 document_told {T} call old new document why refusal copied status wrote is copy said_so wrote_it takes now read refuses =
     told call old new (refused (Some document) refusal) wrote (Refused refusal) (refusal_line copied refusal) status said_so refl
     (ap (λ (d : Option Document). refusal_line d refusal) copy)
-    (document_refused call document refusal takes now read (subst (λ (r : Refuse). IsRefusedBy one_document document r) is refuses))
+    (document_refused call document refusal takes now read (subst (λ (r : Refuse). Checks document (Err r)) is refuses))
     wrote_it
 
 -- ---- a document is accepted

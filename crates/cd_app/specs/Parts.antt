@@ -5,9 +5,7 @@ use Rattle.cd_base.specs.declared.sink.WriteStop.{WriteStop}
 use Rattle.cd_base.specs.declared.sink.WriteStop.TheVariants as write
 use Rattle.cd_tree.specs.declared.document.Document.{Document}
 use Rattle.cd_tree.specs.declared.document.Fault.{Fault}
-use Rattle.cd_tree.specs.declared.refusal.Refuse.{Refuse}
-use Rattle.cd_tree.specs.declared.refusal.Refuse.TheVariants as refuse
-use Rattle.cd_check.specs.Checking.{FirstRefusalOf, Passes}
+use Rattle.cd_check.specs.Checking.{Passes}
 use Rattle.cd_cover.specs.Plans.{PlanModel}
 use Rattle.cd_parse.specs.Reading.{parse}
 use Rattle.cd_parse.specs.WellRead.{WellRead}
@@ -49,11 +47,6 @@ ReadsBytes bytes (Ok document) = parse bytes ≡ Ok document
 ReadsBytes bytes (Err (stop.Refused refusal)) = parse bytes ≡ Err refusal
 ReadsBytes bytes (Err stop.ReadFault) = ⊥
 ReadsBytes bytes (Err stop.NoMemory) = Unit {0}
-
--- why a document is not accepted
-abbrev pub IsRefusedBy : Intake → Document → Refuse → Type 0
-IsRefusedBy intake document (refuse.Refused refusal) = FirstRefusalOf intake.questions document (Some refusal)
-IsRefusedBy intake document refuse.NoMemory = Unit {0}
 
 -- ---- what is done with a document
 

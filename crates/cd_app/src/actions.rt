@@ -1,16 +1,16 @@
-ghost use Rattle.std.specs.Prelude.{◌≡◌, ◌≤◌, ℕ, List, Some, length, MatchResult};
+ghost use Rattle.std.specs.Prelude.{◌≡◌, ◌≤◌, ℕ, List, Some, Err, length, MatchResult};
 ghost use Rattle.cd_base.specs.Ends.{WriteAll};
 ghost use Rattle.cd_tree.specs.declared.document.Fault.{Fault};
 ghost use Rattle.cd_tree.specs.Domains.{root_of};
 ghost use Rattle.cd_tree.specs.Meaning.{node_need};
-ghost use Rattle.cd_check.specs.Checking.{Passes};
+ghost use Rattle.cd_check.specs.Checking.{Passes, Checks};
 ghost use Rattle.cd_parse.specs.WellRead.{WellRead};
 ghost use Rattle.cd_field.specs.FieldModel.{FieldModel};
 ghost use Rattle.cd_command.specs.declared.command.Command.TheVariants as command;
 ghost use Rattle.cd_app.specs.Running.{check_text, read_text, lift_text};
-ghost use Rattle.cd_app.specs.Deeds.{one_document, deed_of, deed_in};
+ghost use Rattle.cd_app.specs.Deeds.{one_document, deed_of, deed_in, intake_in};
 ghost use Rattle.cd_app.specs.Calls.{Call, Meets, call_of};
-ghost use Rattle.cd_app.specs.Parts.{IsRead, IsRefusedBy, IsPassed, deed_for};
+ghost use Rattle.cd_app.specs.Parts.{IsRead, IsPassed, deed_for};
 
 use crate::Status;
 use crate::receive::receive;
@@ -63,7 +63,7 @@ fn judge<K: Sink, F: Field>(
     machine: &mut F,
 ) -> Status
     requires well { WellRead document.now }
-    ensures { (call : Call) → deed_in call.words ≡ Some (deed_for action) → IsRead one_document call.source_was call.source_now document.now → call.machine_was ≡ F.model machine.old → call.machine_now ≡ F.model machine.new → Meets call (K.model sink.old) (K.model sink.new) result }
+    ensures { (call : Call) → deed_in call.words ≡ Some (deed_for action) → intake_in call.words ≡ Some one_document → IsRead one_document call.source_was call.source_now document.now → call.machine_was ≡ F.model machine.old → call.machine_now ≡ F.model machine.new → Meets call (K.model sink.old) (K.model sink.new) result }
 {
     match Footprints::of(alloc, &document.tree) {
         Ok(feet) => match check(alloc, document, &feet) {
@@ -117,7 +117,7 @@ pub(crate) fn lift<S: Source, K: Sink>(alloc: Global, source: &mut S, sink: &mut
 
 // Whether the checks pass a document.
 fn passes(alloc: Global, document: &Document) -> Result<(), Refuse>
-    ensures { MatchResult result (λ _. (script : List Fault) × Passes document.now script) (λ refuse. IsRefusedBy one_document document.now refuse) }
+    ensures { MatchResult result (λ _. (script : List Fault) × Passes document.now script) (λ refuse. Checks document.now (Err refuse)) }
 {
     match Footprints::of(alloc, &document.tree) {
         Ok(feet) => match check(alloc, document, &feet) {

@@ -1,7 +1,8 @@
-ghost use Rattle.std.specs.Prelude.{◌≡◌, Some};
+ghost use Rattle.std.specs.Prelude.{◌≡◌, Some, Err};
+ghost use Rattle.cd_check.specs.Checking.{Checks};
 ghost use Rattle.cd_app.specs.Deeds.{one_document, intake_in};
 ghost use Rattle.cd_app.specs.Calls.{Call, Meets};
-ghost use Rattle.cd_app.specs.Parts.{IsNone, IsRead, IsRefusedBy};
+ghost use Rattle.cd_app.specs.Parts.{IsNone, IsRead};
 
 use crate::Status;
 use crate::receive::Stop;
@@ -32,7 +33,7 @@ pub(crate) fn tell_of<K: Sink>(
     refuse: Refuse,
     sink: &mut K,
 ) -> Status
-    ensures { (call : Call) → intake_in call.words ≡ Some one_document → call.machine_now ≡ call.machine_was → IsRead one_document call.source_was call.source_now document.now → IsRefusedBy one_document document.now refuse → Meets call (K.model sink.old) (K.model sink.new) result }
+    ensures { (call : Call) → intake_in call.words ≡ Some one_document → call.machine_now ≡ call.machine_was → IsRead one_document call.source_was call.source_now document.now → Checks document.now (Err refuse) → Meets call (K.model sink.old) (K.model sink.new) result }
 {
     match refuse {
         Refuse::Refused(refusal) => {

@@ -13,7 +13,7 @@ returns-in-Ok g c =
     λ words asked.
     c.judge.ensures
     (call_of words (g.S.Source.model c.args.source.now) (g.S.Source.model c.receive.new.source) (g.F.Field.model c.args.machine.now) (g.F.Field.model c.judge.new.machine))
-    asked c.in-Ok.ensures refl refl
+    asked (takes_by words (deed_for c.args.action) one_document asked (action_takes c.args.action)) c.in-Ok.ensures refl refl
 
 pub returns-in-Err : goal.returns-in-Err
 returns-in-Err g c =
