@@ -145,13 +145,10 @@ fn change_flat(words: &mut FlatWords, place: Place, mask: u64)
     words.set(place, word ^ mask);
 }
 
-// The places of two sets. More ranges than a set can have would be more than there is memory for.
+// The places of two sets.
 pub(crate) fn union_of(alloc: Global, a: &Places, b: &Places) -> Result<Places, NoMemory>
     ensures { IfOk result (λ all. (q : _) → in_ranges all q ≡ (in_ranges a.now q || in_ranges b.now q)) }
 {
-    if a.ranges().len() + b.ranges().len() >= 1 << 32 {
-        return Err(NoMemory);
-    }
     let mut all = a.try_clone(alloc)?;
     all.union(b)?;
     Ok(all)
