@@ -17,8 +17,9 @@ const NO_WORDS: u8 = 8;
 
 fn main(rt: HostRuntime) -> ExitCode {
     let alloc = rt.alloc();
-    let Ok(arguments) = env::args(&rt) else {
-        return ExitCode::from(NO_WORDS);
+    let arguments = match env::args(&rt) {
+        Ok(arguments) => arguments,
+        Err(error) => return ExitCode::from(no_words(&error)),
     };
     let collected: Result<Vec<String>, AllocError> = arguments.skip(1).collect(alloc);
     let Ok(collected) = collected else {
@@ -32,6 +33,14 @@ fn main(rt: HostRuntime) -> ExitCode {
     let mut machine = ScriptField::empty(alloc);
     let status = run_cd(alloc, &words, &mut source, &mut sink, &mut machine);
     ExitCode::from(status.code())
+}
+
+// The status where the words did not come.
+fn no_words(error: &io::Error) -> u8 {
+    match error.kind() {
+        io::ErrorKind::OutOfMemory => NO_MEMORY,
+        _ => NO_WORDS,
+    }
 }
 
 fn words_of(alloc: Global, arguments: &[String]) -> Result<Words, NoMemory> {

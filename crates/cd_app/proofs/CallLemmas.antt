@@ -1,158 +1,198 @@
--- From the parts of a call to its line in the table.
-use Rattle.std.proofs.Common.{◌≡◌, ℕ, Bool, List, Option, None, Some, Result, Err, refl, ap, sym, subst, ◌∙◌, inl, inr}
-use Rattle.cd_base.specs.declared.sink.WriteStop.{WriteStop}
-use Rattle.cd_base.specs.Ends.{Rose, WriteAll}
+-- From the parts of a call to the outcome that it comes to.
+use Rattle.std.proofs.Common.{◌≡◌, ◌⊎◌, ℕ, ◌+◌, ◌≤◌, Bool, List, [], ◌++◌, length, Option, None, Some, Result, Ok, Err, refl, ap, sym, subst, ◌∙◌, inl, inr, arith}
+use Rattle.std.specs.Prelude.{option_map, option_and_then}
+use Rattle.std.specs.Io.KnownBytes.{Consumes}
+use Rattle.cd_base.specs.Ends.{SourceModel, SinkModel, Took, TookAtMost}
 use Rattle.cd_tree.specs.declared.document.Document.{Document}
 use Rattle.cd_tree.specs.declared.document.Fault.{Fault}
 use Rattle.cd_tree.specs.declared.event.Cause.{Cause}
 use Rattle.cd_tree.specs.declared.refusal.Refusal.{Refusal}
-use Rattle.cd_reading.specs.Through.{cause_in}
-use Rattle.cd_report.specs.Texts.{refusal_line, usage_line, fault_line, not_built_line}
+use Rattle.cd_check.specs.Checking.{FirstRefusalOf, Passes}
+use Rattle.cd_parse.specs.Reading.{parse}
+use Rattle.cd_field.specs.FieldModel.{FieldModel}
 use Rattle.cd_command.specs.declared.command.Command.{Command}
-use Rattle.cd_command.specs.declared.command.Command.TheVariants.{Check, Read, Lift, Run, Make}
 use Rattle.cd_command.specs.CommandLine.{command_in}
-use Rattle.cd_make.specs.Making.{make_text}
-use Rattle.cd_app.specs.declared.receive.Stop.{Stop}
 use Rattle.cd_app.specs.declared.receive.Stop.TheVariants as stop
-use Rattle.cd_app.specs.declared.status.Status.{Status}
-use Rattle.cd_app.specs.declared.status.Status.TheVariants.{Usage, Refused, ReadFault, NotBuilt}
-use Rattle.cd_app.specs.Running.{Call, Written, Accepts, Refuses, Runs, HoldsRun, IsBuilt, IsRun, TakesDocument, SaysOfDocument, Gives, Meets, status_of, said_of, check_text, read_text, lift_text, report_of}
-use Rattle.cd_app.specs.Parts.{Receives, status_said, status_written, record_asked}
-use Rattle.cd_app.proofs.WriteLemmas.{line_said, text_written}
+use Rattle.cd_app.specs.declared.status.Status.TheVariants.{NoMemory}
+use Rattle.cd_app.specs.Running.{HoldsRun, IsBuilt}
+use Rattle.cd_app.specs.Deeds.{Intake, one_document, Accepted, Deed, makes, says, runs, deed_of, deed_in, intake_of, intake_in}
+use Rattle.cd_app.specs.Outcomes.{Input, whole, too_much, unread, Gave, AcceptsBytes, Outcome, no_command, made, not_read, refused, said, not_built, ran, Runs, ComesOfInput, ComesOf}
+use Rattle.cd_app.specs.Calls.{Call, call_of, Comes, Leaves, Ends, TookWithin, ComesToRun, RanOut, Meets}
+use Rattle.cd_app.specs.Parts.{IsRead, IsNone, IsRefusedBy}
 
--- what is written to a sink of a text
-abbrev Writes : {T : Type 0} → Written → List ℕ → Result T WriteStop → Type 0
-Writes sink text wrote = WriteAll sink.held sink.holds sink.faults_before sink.faults_after text wrote
+-- ---- what the words ask for
 
--- a call that refuses
-pub refused_told : {T : Type 0} (call : Call) (sink : Written) (why : Stop) (named copied : Option Document) (refusal : Refusal)
-    (status : Status) (wrote : Result T WriteStop) → why ≡ stop.Refused named refusal → copied ≡ named
-    → status ≡ status_said wrote (Refused refusal) → Writes sink (refusal_line copied refusal) wrote
-    → TakesDocument (command_in call.words) → call.now ≡ call.was
-    → Receives call.had call.left call.read_before call.read_after (Err why) → Meets call sink status
-refused_told {T} call sink why named copied refusal status wrote is copy said text takes now stopped =
-    let refuses : Refuses call.had call.left named refusal =
-    subst (λ (s : Stop). Receives call.had call.left call.read_before call.read_after (Err s)) is stopped in
-    let line : Writes sink (refusal_line named refusal) wrote =
-    subst (λ (d : Option Document). Writes sink (refusal_line d refusal) wrote) copy text in
-    subst (λ (s : Status). Meets call sink s) (sym said)
-    (line_said call sink (Refused refusal) (refusal_line named refusal) wrote line (λ writes w. (takes, now, (named, refuses, w)))
-    (λ gives. gives))
+-- the deed of a command that was parsed
+pub asks_for : (words : List (List ℕ)) (parsed : Option Command) (command : Command) → parsed ≡ command_in words
+    → parsed ≡ Some command → deed_in words ≡ Some (deed_of command)
+asks_for words parsed command exact is = ap (option_map deed_of) (sym exact ∙ is)
 
--- a call whose source fails
-pub fault_told : {T : Type 0} (call : Call) (sink : Written) (why : Stop) (status : Status) (wrote : Result T WriteStop)
-    → why ≡ stop.ReadFault → status ≡ status_said wrote ReadFault → Writes sink fault_line wrote
-    → TakesDocument (command_in call.words) → call.now ≡ call.was
-    → Receives call.had call.left call.read_before call.read_after (Err why) → Meets call sink status
-fault_told {T} call sink why status wrote is said text takes now stopped =
-    let rose : Rose call.read_before call.read_after =
-    subst (λ (s : Stop). Receives call.had call.left call.read_before call.read_after (Err s)) is stopped in
-    subst (λ (s : Status). Meets call sink s) (sym said)
-    (line_said call sink ReadFault fault_line wrote text (λ writes w. (takes, rose, now, w)) (λ gives. gives))
+pub asks_for_nothing : (words : List (List ℕ)) (parsed : Option Command) → parsed ≡ command_in words → parsed ≡ None
+    → deed_in words ≡ None
+asks_for_nothing words parsed exact is = ap (option_map deed_of) (sym exact ∙ is)
 
--- a call without a command
-pub usage_told : {T : Type 0} (call : Call) (sink : Written) (status : Status) (wrote : Result T WriteStop)
-    → command_in call.words ≡ None → call.left ≡ call.had → call.now ≡ call.was → status ≡ status_said wrote Usage
-    → Writes sink usage_line wrote → Meets call sink status
-usage_told {T} call sink status wrote none left now said text =
-    subst (λ (s : Status). Meets call sink s) (sym said)
-    (line_said call sink Usage usage_line wrote text (λ writes w. (none, (left, now), w)) (λ gives. gives))
+-- and the intake of a deed
+pub takes_by : (words : List (List ℕ)) (deed : Deed) (intake : Intake) → deed_in words ≡ Some deed → intake_of deed ≡ Some intake
+    → intake_in words ≡ Some intake
+takes_by words deed intake asked is = ap (option_and_then intake_of) asked ∙ is
 
--- `make`
-pub make_told : {T : Type 0} (call : Call) (sink : Written) (size : ℕ) (status : Status) (wrote : Result T WriteStop)
-    → command_in call.words ≡ Some (Make size) → call.left ≡ call.had → call.now ≡ call.was
-    → status ≡ status_written wrote None → Writes sink (make_text size) wrote → Meets call sink status
-make_told {T} call sink size status wrote command left now is text =
-    subst (λ (s : Status). Meets call sink s) (sym is)
-    (text_written call sink None (make_text size) wrote text
-    (λ writes w. inl (record { size = size; command = command; stays = (left, now); text = w })))
+-- what comes of a deed comes of the words that ask for it
+pub comes_by : (call : Call) (deed : Option Deed) (outcome : Outcome) → deed_in call.words ≡ deed
+    → ComesOf (Gave call.source_was call.source_now) deed outcome → Comes call outcome
+comes_by call deed outcome asked comes = subst (λ (d : Option Deed). ComesOf (Gave call.source_was call.source_now) d outcome) (sym asked) comes
 
--- an action on a document says something
-said_text : (command : Command) (document : Document) (script : List Fault) → SaysOfDocument command
-    → (text : List ℕ) × (said_of command document script ≡ Some text)
-said_text Check document script says = (check_text document, refl)
-said_text Read document script says = (read_text document script, refl)
-said_text Lift document script says = (lift_text document, refl)
-said_text (Run workers with_record) document script says = absurd says
-said_text (Make size) document script says = absurd says
+-- ---- outcomes of an input
 
--- `check`, `read` or `lift`
-pub action_told : {T : Type 0} (call : Call) (sink : Written) (command : Command) (document : Document) (script : List Fault)
-    (status : Status) (wrote : Result T WriteStop) → SaysOfDocument command → command_in call.words ≡ Some command
-    → Accepts call.had call.left document script → call.now ≡ call.was
-    → ((text : List ℕ) → said_of command document script ≡ Some text → Writes sink text wrote)
-    → status ≡ status_written wrote None → Meets call sink status
-action_told {T} call sink command document script status wrote says asked accepts now text is =
-    let said : (text : List ℕ) × (said_of command document script ≡ Some text) = said_text command document script says in
-    subst (λ (s : Status). Meets call sink s) (sym is)
-    (text_written call sink None said.0 wrote (text said.0 said.1)
-    (λ writes w. inr (inl (record {
-      command = command;
-      asked = asked;
-      document = document;
-      script = script;
-      accepts = accepts;
-      machine = now;
-      said = said.0;
-      says = said.1;
-      text = w;
-    }))))
+-- the deeds that take one document have in common what comes of an input that is not accepted
+abbrev TakesOne : Option Deed → Type 0
+TakesOne None = ⊥
+TakesOne (Some (makes text)) = ⊥
+TakesOne (Some (says intake text_of)) = intake ≡ one_document
+TakesOne (Some (runs intake with_record)) = intake ≡ one_document
 
--- `run` of a document that the engine cannot run as yet
-pub unbuilt_told : {T : Type 0} (call : Call) (sink : Written) (with_record : Bool) (document : Document) (script : List Fault)
-    (status : Status) (wrote : Result T WriteStop) → IsRun call.words with_record
-    → Accepts call.had call.left document script → (IsBuilt document.tree → ⊥) → call.now ≡ call.was
-    → Writes sink not_built_line wrote → status ≡ status_said wrote NotBuilt → Meets call sink status
-unbuilt_told {T} call sink with_record document script status wrote command accepts unbuilt now text said =
-    subst (λ (s : Status). Meets call sink s) (sym said)
-    (line_said call sink NotBuilt not_built_line wrote text
-    (λ writes w. (record { with_record = with_record; command = command; document = document; script = script; accepts = accepts; unbuilt = unbuilt }, now, w))
-    (λ gives. gives))
+some_intake : (one other : Intake) → Some one ≡ Some other → one ≡ other
+some_intake one other e = cc
 
--- a run is given by what the table says of it
-run_given : (call : Call) (cause : Option Cause) (writes : List ℕ → Type 0) → Runs call writes cause → Gives call writes (status_of cause)
-run_given call None writes runs = inr (inr runs)
-run_given call (Some cause) writes runs = runs
+takes_one : (deed : Option Deed) → option_and_then intake_of deed ≡ Some one_document → TakesOne deed
+takes_one None takes = let no : None ≡ Some one_document = takes in cc
+takes_one (Some (makes text)) takes = let no : None ≡ Some one_document = takes in cc
+takes_one (Some (says intake text_of)) takes = some_intake intake one_document takes
+takes_one (Some (runs intake with_record)) takes = some_intake intake one_document takes
 
--- `run`
-pub run_told : {T : Type 0} (call : Call) (sink : Written) (with_record : Bool) (document : Document) (script : List Fault)
-    (cause : Option Cause) (status : Status) (wrote : Result T WriteStop) → IsRun call.words with_record
-    → Accepts call.had call.left document script → IsBuilt document.tree → HoldsRun document script call.now
-    → cause ≡ cause_in document.tree script → Writes sink (report_of with_record document script) wrote
-    → status ≡ status_written wrote cause → Meets call sink status
-run_told {T} call sink with_record document script cause status wrote command accepts built holds ending text is =
-    subst (λ (s : Status). Meets call sink s) (sym is)
-    (text_written call sink cause (report_of with_record document script) wrote text
-    (λ writes w. run_given call cause writes (record {
-      with_record = with_record;
-      command = command;
-      document = document;
-      script = script;
-      accepts = accepts;
-      built = built;
-      holds = holds;
-      ending = sym ending;
-      text = w;
-    })))
+-- an outcome that comes of an input, whatever is done with one that is accepted, comes of the call
+of_input : (call : Call) (input : Input) (outcome : Outcome) → intake_in call.words ≡ Some one_document
+    → Gave call.source_was call.source_now one_document.limit input
+    → ((Next : Accepted → Outcome → Type 0) → ComesOfInput one_document Next input outcome) → Comes call outcome
+of_input call input outcome takes gave anyhow = go (deed_in call.words) (takes_one (deed_in call.words) takes)
+  where
+    go : (deed : Option Deed) → TakesOne deed → ComesOf (Gave call.source_was call.source_now) deed outcome
+    go None never = absurd never
+    go (Some (makes text)) never = absurd never
+    go (Some (says intake text_of)) same =
+        subst (λ (i : Intake). ComesOf (Gave call.source_was call.source_now) (Some (says i text_of)) outcome) (sym same)
+        (input, gave, anyhow (λ accepted end. end ≡ said (text_of accepted)))
+    go (Some (runs intake with_record)) same =
+        subst (λ (i : Intake). ComesOf (Gave call.source_was call.source_now) (Some (runs i with_record)) outcome) (sym same)
+        (input, gave, anyhow (Runs with_record))
 
--- a command of which no record is asked is no run
-pub no_run : (words : List (List ℕ)) (command : Option Command) → command ≡ command_in words → record_asked command ≡ None
-    → (with_record : Bool) → IsRun words with_record → ⊥
-no_run words command is none with_record run =
-    let asked : Some with_record ≡ None = sym (ap record_asked (is ∙ run.1)) ∙ none in cc
+-- there is no document
+pub none_refused : (call : Call) (refusal : Refusal) → intake_in call.words ≡ Some one_document → call.machine_now ≡ call.machine_was
+    → IsNone one_document call.source_was call.source_now (stop.Refused refusal) → Ends call (refused None refusal)
+none_refused call refusal takes now (inl long) =
+    (of_input call too_much (refused None refusal) takes long.0 (λ Next. ap (refused None) long.1), now)
+none_refused call refusal takes now (inr (bytes, gave, reads)) =
+    (of_input call (whole bytes) (refused None refusal) takes gave (λ Next. inl (None, refusal, reads, refl)), now)
 
--- and one of which a record is asked, or asked not, is a run
-pub is_run : (words : List (List ℕ)) (command : Option Command) (with_record : Bool) → command ≡ command_in words
-    → record_asked command ≡ Some with_record → IsRun words with_record
-is_run words None with_record is asked = cc
-is_run words (Some Check) with_record is asked = cc
-is_run words (Some Read) with_record is asked = cc
-is_run words (Some Lift) with_record is asked = cc
-is_run words (Some (Make size)) with_record is asked = cc
-is_run words (Some (Run workers wanted)) with_record is asked =
-    (workers, (let same : wanted ≡ with_record = cc in sym is ∙ ap (λ (b : Bool). Some (Run workers b)) same))
+-- the source failed
+pub fault_ends : (call : Call) → intake_in call.words ≡ Some one_document → call.machine_now ≡ call.machine_was
+    → IsNone one_document call.source_was call.source_now stop.ReadFault → Ends call not_read
+fault_ends call takes now gave = (of_input call unread not_read takes gave (λ Next. refl), now)
 
--- the command that was found is the one that was asked for
-pub asked_for : (words : List (List ℕ)) (found : Option Command) (one command : Command) → found ≡ command_in words
-    → found ≡ Some one → one ≡ command → command_in words ≡ Some command
-asked_for words found one command exact some is = sym exact ∙ some ∙ ap (λ (x : Command). Some x) is
+-- a document is refused
+pub document_refused : (call : Call) (document : Document) (refusal : Refusal) → intake_in call.words ≡ Some one_document
+    → call.machine_now ≡ call.machine_was → IsRead one_document call.source_was call.source_now document
+    → FirstRefusalOf one_document.questions document (Some refusal) → Ends call (refused (Some document) refusal)
+document_refused call document refusal takes now is first = (
+  of_input call (whole is.bytes) (refused (Some document) refusal) takes is.gave (λ Next. inl (Some document, refusal, (is.read, first), refl)),
+  now,
+)
+
+-- ---- outcomes of an accepted document
+
+-- an input that was read, with the script with which its document passes
+abbrev pub input_of : {old new : SourceModel} (document : Document) (script : List Fault) → IsRead one_document old new document → Accepted
+input_of {old} {new} document script is = record { bytes = is.bytes; document = document; script = script }
+
+accepts : {old new : SourceModel} (document : Document) (script : List Fault) (is : IsRead one_document old new document)
+    → Passes document script → AcceptsBytes one_document (input_of document script is)
+accepts {old} {new} document script is passes = record { read = is.read; checked = passes.checked; passes = passes }
+
+-- something is said of it
+pub said_ends : (call : Call) (text_of : Accepted → List ℕ) (document : Document) (script : List Fault)
+    → deed_in call.words ≡ Some (says one_document text_of) → (is : IsRead one_document call.source_was call.source_now document)
+    → Passes document script → call.machine_now ≡ call.machine_was → Ends call (said (text_of (input_of document script is)))
+said_ends call text_of document script asked is passes now = (
+  comes_by call (Some (says one_document text_of)) (said (text_of (input_of document script is))) asked
+      (whole is.bytes, is.gave, inr (input_of document script is, refl, accepts document script is passes, refl)),
+  now,
+)
+
+-- the engine cannot run it as yet
+pub unbuilt_ends : (call : Call) (with_record : Bool) (document : Document) (script : List Fault)
+    → deed_in call.words ≡ Some (runs one_document with_record) → IsRead one_document call.source_was call.source_now document
+    → Passes document script → (IsBuilt document.tree → ⊥) → call.machine_now ≡ call.machine_was → Ends call not_built
+unbuilt_ends call with_record document script asked is passes unbuilt now = (
+  comes_by call (Some (runs one_document with_record)) not_built asked
+      (whole is.bytes, is.gave, inr (input_of document script is, refl, accepts document script is passes, inr (unbuilt, refl))),
+  now,
+)
+
+-- it is to run
+run_comes : (call : Call) (with_record : Bool) (document : Document) (script : List Fault)
+    → deed_in call.words ≡ Some (runs one_document with_record) → (is : IsRead one_document call.source_was call.source_now document)
+    → Passes document script → IsBuilt document.tree → Comes call (ran with_record (input_of document script is))
+run_comes call with_record document script asked is passes built =
+    comes_by call (Some (runs one_document with_record)) (ran with_record (input_of document script is)) asked
+    (whole is.bytes, is.gave, inr (input_of document script is, refl, accepts document script is passes, inl (built, refl)))
+
+-- it has run
+pub ran_ends : (call : Call) (with_record : Bool) (document : Document) (script : List Fault)
+    → deed_in call.words ≡ Some (runs one_document with_record) → (is : IsRead one_document call.source_was call.source_now document)
+    → Passes document script → IsBuilt document.tree → HoldsRun document script call.machine_now
+    → Ends call (ran with_record (input_of document script is))
+ran_ends call with_record document script asked is passes built holds =
+    (run_comes call with_record document script asked is passes built, holds)
+
+-- ---- outcomes without an input
+
+pub usage_ends : (call : Call) → deed_in call.words ≡ None → call.source_now ≡ call.source_was → call.machine_now ≡ call.machine_was → Ends call no_command
+usage_ends call asked left now = (comes_by call None no_command asked refl, (left, now))
+
+pub made_ends : (call : Call) (text : List ℕ) → deed_in call.words ≡ Some (makes text) → call.source_now ≡ call.source_was
+    → call.machine_now ≡ call.machine_was → Ends call (made text)
+made_ends call text asked left now = (comes_by call (Some (makes text)) (made text) asked refl, (left, now))
+
+-- ---- want of memory
+
+nothing_consumed : (left : Option (List ℕ)) → Consumes left left []
+nothing_consumed None = tt
+nothing_consumed (Some bytes) = refl
+
+took_nothing : (intake : Option Intake) (m : SourceModel) → TookWithin intake m m
+took_nothing None m = refl
+took_nothing (Some intake) m = ([], (nothing_consumed m.left, omega arith), omega arith)
+
+-- before anything was read
+pub no_memory_at_once : (words : List (List ℕ)) (source : SourceModel) (m : FieldModel) (sink : SinkModel)
+    → Meets (call_of words source source m m) sink sink NoMemory
+no_memory_at_once words source m sink = inl ((took_nothing (intake_in words) source, inl refl), refl)
+
+took_within : (call : Call) → intake_in call.words ≡ Some one_document → TookAtMost call.source_was call.source_now one_document.limit
+    → TookWithin (intake_in call.words) call.source_was call.source_now
+took_within call takes took = subst (λ (i : Option Intake). TookWithin i call.source_was call.source_now) (sym takes) took
+
+-- before the machine was touched
+pub no_memory_yet : (call : Call) (sink : SinkModel) → intake_in call.words ≡ Some one_document → call.machine_now ≡ call.machine_was
+    → TookAtMost call.source_was call.source_now one_document.limit → Meets call sink sink NoMemory
+no_memory_yet call sink takes now took = inl ((took_within call takes took, inl now), refl)
+
+took_of : (old new : SourceModel) (document : Document) → IsRead one_document old new document → TookAtMost old new one_document.limit
+took_of old new document is = (is.bytes, is.gave.0, is.gave.2)
+
+pub no_memory_for : (call : Call) (sink : SinkModel) (document : Document) → intake_in call.words ≡ Some one_document
+    → call.machine_now ≡ call.machine_was → IsRead one_document call.source_was call.source_now document → Meets call sink sink NoMemory
+no_memory_for call sink document takes now is = no_memory_yet call sink takes now (took_of call.source_was call.source_now document is)
+
+-- in a run
+pub no_memory_in_run : (call : Call) (sink : SinkModel) (with_record : Bool) (document : Document) (script : List Fault)
+    → deed_in call.words ≡ Some (runs one_document with_record) → IsRead one_document call.source_was call.source_now document
+    → Passes document script → IsBuilt document.tree → Meets call sink sink NoMemory
+no_memory_in_run call sink with_record document script asked is passes built =
+    let takes : intake_in call.words ≡ Some one_document = takes_by call.words (runs one_document with_record) one_document asked refl in
+    inl (
+      (
+        took_within call takes (took_of call.source_was call.source_now document is),
+        inr (with_record, input_of document script is, run_comes call with_record document script asked is passes built),
+      ),
+      refl,
+    )

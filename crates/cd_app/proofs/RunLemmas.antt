@@ -13,13 +13,13 @@ use Rattle.cd_tree.specs.declared.document.Document.{Document}
 use Rattle.cd_tree.specs.Domains.{root_of, domain_of}
 use Rattle.cd_tree.specs.Laws.{WordsStay, CoveredReach}
 use Rattle.cd_tree.specs.Meaning.{initial, initial_word, in_entries, node_reach, IsCovered}
-use Rattle.cd_tree.specs.Outlines.{Outline}
+use Rattle.cd_tree.specs.TreeModel.{TreeModel}
 use Rattle.cd_tree.specs.Reading.{NodeEnd, Done as Completed, Escalated}
 use Rattle.cd_tree.specs.Record.{reading}
 use Rattle.cd_script.specs.Acceptance.{AreFoundAs}
 use Rattle.cd_parse.specs.WellRead.{WellRead, IsReadRange, AreReadEntries, AreReadDomains}
-use Rattle.cd_field.specs.Machine.{Machine, IsPresent, loaded}
-use Rattle.cd_core.specs.Single.{OnlyCopies}
+use Rattle.cd_field.specs.FieldModel.{FieldModel, IsPresent, loaded}
+use Rattle.cd_single.specs.Single.{OnlyCopies}
 use Rattle.cd_app.specs.Running.{HoldsRun, words_at_end}
 
 -- ---- the reading's counts
@@ -89,14 +89,14 @@ root_entries regions (domain ∷ []) one read = read.0.entries
 root_entries regions (domain ∷ other ∷ domains) one read = absurd (omega (arith, one))
 
 -- the places that the root reaches are present on a machine that was loaded
-pub reach_present : (law : CoveredReach) (document : Document) (script : List Fault) (m : Machine) → WellRead document
+pub reach_present : (law : CoveredReach) (document : Document) (script : List Fault) (m : FieldModel) → WellRead document
     → length document.tree.domains ≡ 1 → IsCovered (root_of document.tree.domains) → m ≡ loaded document.regions script
     → (p : Place) → node_reach (root_of document.tree.domains) p ≡ true → IsPresent m p
 reach_present law document script m read one covered is p reached =
     let known : IsSome (initial document.regions p) =
     entries_known document.regions (domain_of (root_of document.tree.domains)).entries p
     (root_entries document.regions document.tree.domains one read.domains) (law (root_of document.tree.domains) p covered reached) in
-    subst (λ (n : Machine). IsPresent n p) (sym is) (record { known = known; here = refl })
+    subst (λ (n : FieldModel). IsPresent n p) (sym is) (record { known = known; here = refl })
 
 -- the words that a region has at the start it has at the end
 end_known : (law : WordsStay) (document : Document) (end : NodeEnd) (p : Place) → IsSome (initial document.regions p)
@@ -104,7 +104,7 @@ end_known : (law : WordsStay) (document : Document) (end : NodeEnd) (p : Place) 
 end_known law document (Completed leak) p some = law (root_of document.tree.domains) (initial document.regions) p some
 end_known law document (Escalated cause over) p some = some
 
-pub regions_present : (law : WordsStay) (document : Document) (script : List Fault) (m : Machine) → HoldsRun document script m
+pub regions_present : (law : WordsStay) (document : Document) (script : List Fault) (m : FieldModel) → HoldsRun document script m
     → (k i : ℕ) (region : Region) → slice_get document.regions k ≡ Some region → i < region.length
     → IsPresent m (record { region = k; index = i })
 regions_present law document script m holds k i region found short =
@@ -136,6 +136,6 @@ only_one (domain ∷ []) root one is =
     )
 
 -- the only domain's entries are copies where those of each domain are
-pub only_root : (tree : Outline) (root : Domain) → length tree.domains ≡ 1 → slice_get tree.domains 0 ≡ Some root
+pub only_root : (tree : TreeModel) (root : Domain) → length tree.domains ≡ 1 → slice_get tree.domains 0 ≡ Some root
     → All (λ (entry : Entry). entry.how ≡ kept.Copy) root.entries ↔ OnlyCopies tree
 only_root tree root one is = only_one tree.domains root one is

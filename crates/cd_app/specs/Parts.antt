@@ -1,85 +1,85 @@
 -- What the parts of a call answer.
-use Rattle.std.specs.Prelude.{◌≡◌, ℕ, Bool, List, Option, None, Some, Result, Ok, Err}
-use Rattle.cd_base.specs.Ends.{Rose}
+use Rattle.std.specs.Prelude.{◌≡◌, ◌⊎◌, ℕ, List, Option, None, Some, Result, Ok, Err}
+use Rattle.cd_base.specs.Ends.{SourceModel, TookAtMost}
 use Rattle.cd_base.specs.declared.sink.WriteStop.{WriteStop}
 use Rattle.cd_base.specs.declared.sink.WriteStop.TheVariants as write
 use Rattle.cd_tree.specs.declared.document.Document.{Document}
 use Rattle.cd_tree.specs.declared.document.Fault.{Fault}
-use Rattle.cd_tree.specs.declared.event.Cause.{Cause}
 use Rattle.cd_tree.specs.declared.refusal.Refuse.{Refuse}
 use Rattle.cd_tree.specs.declared.refusal.Refuse.TheVariants as refuse
-use Rattle.cd_tree.specs.Domains.{root_of}
-use Rattle.cd_tree.specs.Meaning.{IsCovered, node_need}
-use Rattle.cd_check.specs.Checking.{FirstRefusal, Passes}
+use Rattle.cd_check.specs.Checking.{FirstRefusalOf, Passes}
+use Rattle.cd_cover.specs.Plans.{PlanModel}
 use Rattle.cd_parse.specs.Reading.{parse}
-use Rattle.cd_command.specs.declared.command.Command.{Command}
-use Rattle.cd_command.specs.declared.command.Command.TheVariants.{Check, Read, Lift, Run, Make}
-use Rattle.cd_app.specs.declared.receive.Accepted.{Accepted}
+use Rattle.cd_parse.specs.WellRead.{WellRead}
+use Rattle.cd_app.specs.declared.actions.Action.{Action}
+use Rattle.cd_app.specs.declared.actions.Action.TheVariants as action
 use Rattle.cd_app.specs.declared.receive.Stop.{Stop}
 use Rattle.cd_app.specs.declared.receive.Stop.TheVariants as stop
 use Rattle.cd_app.specs.declared.status.Status.{Status}
 use Rattle.cd_app.specs.declared.status.Status.TheVariants.{WriteFault, NoMemory}
-use Rattle.cd_app.specs.Running.{Accepts, Refuses, RefusesText, status_of}
+use Rattle.cd_app.specs.Running.{check_text, read_text}
+use Rattle.cd_app.specs.Deeds.{Intake, one_document, Deed, says, runs}
+use Rattle.cd_app.specs.Outcomes.{Input, whole, too_much, unread, Gave, ComesOfInput, refused}
+use Rattle.cd_app.specs.Calls.{Call, Standing, by_text, standing}
 
 -- ---- receiving a document
 
--- what the plan of a document says that the checks pass: what its program needs, and that it is covered
-pub record IsPlanned (document : Document) (need : ℕ) : Type 0 where
-  pub need_is : need ≡ node_need (root_of document.tree.domains)
-  pub covered : IsCovered (root_of document.tree.domains)
+-- bytes that were all taken, and the document that they are
+pub record IsRead (intake : Intake) (had left : SourceModel) (document : Document) : Type 0 where
+  pub bytes : List ℕ
+  pub gave : Gave had left intake.limit (whole bytes)
+  pub read : parse (intake.document_in bytes) ≡ Ok document
 
--- the need and the script of a document that passes the checks, or its first refusal
-abbrev pub Settles : Document → Result (ℕ × List Fault) Refuse → Type 0
-Settles document (Ok settled) = Passes document settled.1 × IsPlanned document settled.0
-Settles document (Err (refuse.Refused refusal)) = FirstRefusal document (Some refusal)
-Settles document (Err refuse.NoMemory) = Unit {0}
+-- why there is no document: more bytes than the limit, or bytes that are none
+abbrev pub IsNone : Intake → SourceModel → SourceModel → Stop → Type 0
+IsNone intake had left (stop.Refused refusal) =
+    (Gave had left intake.limit too_much × (refusal ≡ intake.beyond))
+    ⊎ ((bytes : List ℕ) × Gave had left intake.limit (whole bytes) × (parse (intake.document_in bytes) ≡ Err refusal))
+IsNone intake had left stop.ReadFault = Gave had left intake.limit unread
+IsNone intake had left stop.NoMemory = TookAtMost had left intake.limit
 
--- a document that passes the checks, or its first refusal
-abbrev pub PassesOrStops : Document → Result Accepted Stop → Type 0
-PassesOrStops document (Ok accepted) =
-    (accepted.document ≡ document) × Passes document accepted.script × IsPlanned document accepted.need
-PassesOrStops document (Err (stop.Refused named refusal)) = (named ≡ Some document) × FirstRefusal document (Some refusal)
-PassesOrStops document (Err stop.ReadFault) = ⊥
-PassesOrStops document (Err stop.NoMemory) = Unit {0}
+-- the document that a source gave, or why there is none
+abbrev pub Receives : Intake → SourceModel → SourceModel → Result Document Stop → Type 0
+Receives intake had left (Ok document) = IsRead intake had left document
+Receives intake had left (Err why) = IsNone intake had left why
 
--- the document that a text is, which passes the checks, or the text's first refusal
-abbrev pub Judges : List ℕ → Result Accepted Stop → Type 0
-Judges bytes (Ok accepted) =
-    (parse bytes ≡ Ok accepted.document) × Passes accepted.document accepted.script
-    × IsPlanned accepted.document accepted.need
-Judges bytes (Err (stop.Refused named refusal)) = RefusesText bytes named refusal
-Judges bytes (Err stop.ReadFault) = ⊥
-Judges bytes (Err stop.NoMemory) = Unit {0}
+-- the document that bytes are, or why they are none
+abbrev pub ReadsBytes : List ℕ → Result Document Stop → Type 0
+ReadsBytes bytes (Ok document) = parse bytes ≡ Ok document
+ReadsBytes bytes (Err (stop.Refused refusal)) = parse bytes ≡ Err refusal
+ReadsBytes bytes (Err stop.ReadFault) = ⊥
+ReadsBytes bytes (Err stop.NoMemory) = Unit {0}
 
--- the document that the source gave, or why there is none: what the source had and has, its faults before and after
-abbrev pub Receives : Option (List ℕ) → Option (List ℕ) → ℕ → ℕ → Result Accepted Stop → Type 0
-Receives old new before after (Ok accepted) =
-    Accepts old new accepted.document accepted.script × IsPlanned accepted.document accepted.need
-Receives old new before after (Err (stop.Refused named refusal)) = Refuses old new named refusal
-Receives old new before after (Err stop.ReadFault) = Rose before after
-Receives old new before after (Err stop.NoMemory) = Unit {0}
+-- why a document is not accepted
+abbrev pub IsRefusedBy : Intake → Document → Refuse → Type 0
+IsRefusedBy intake document (refuse.Refused refusal) = FirstRefusalOf intake.questions document (Some refusal)
+IsRefusedBy intake document refuse.NoMemory = Unit {0}
 
--- ---- commands
+-- ---- what is done with a document
 
--- whether a run's record is asked for; none where the command is no run
-abbrev pub record_asked : Option Command → Option Bool
-record_asked None = None
-record_asked (Some Check) = None
-record_asked (Some Read) = None
-record_asked (Some Lift) = None
-record_asked (Some (Run workers with_record)) = Some with_record
-record_asked (Some (Make size)) = None
+abbrev pub deed_for : Action → Deed
+deed_for action.Check = says one_document (λ input. check_text input.document)
+deed_for action.Read = says one_document (λ input. read_text input.document input.script)
+deed_for (action.Run with_record) = runs one_document with_record
 
 -- ---- statuses of writes
 
--- a status whose own line was written keeps standing where the sink failed
-abbrev pub status_said : {T : Type 0} → Result T WriteStop → Status → Status
-status_said (Ok _) status = status
-status_said (Err write.Failed) status = status
-status_said (Err write.NoMemory) status = NoMemory
+-- what becomes of a status where the sink failed
+abbrev pub by_standing : Standing → Status → Status
+by_standing by_text status = WriteFault
+by_standing _ status = status
 
--- the status behind a text that has none of its own: the run's cause or none, or that the text is cut short
-abbrev pub status_written : {T : Type 0} → Result T WriteStop → Option Cause → Status
-status_written (Ok _) cause = status_of cause
-status_written (Err write.Failed) cause = WriteFault
-status_written (Err write.NoMemory) cause = NoMemory
+abbrev pub behind_fault : Status → Status
+behind_fault status = by_standing (standing status) status
+
+-- the status of a call that wrote the text of this one
+abbrev pub settled : {T : Type 0} → Result T WriteStop → Status → Status
+settled (Ok _) status = status
+settled (Err write.Failed) status = behind_fault status
+settled (Err write.NoMemory) status = NoMemory
+
+-- a document that was read, that the checks pass with a script, and for which a plan was made
+pub record IsPassed (document : Document) (plan : PlanModel) (script : List Fault) : Type 0 where
+  pub well : WellRead document
+  pub planned : plan.tree ≡ document.tree
+  pub passes : Passes document script

@@ -1,95 +1,137 @@
-ghost use Rattle.std.specs.Prelude.{◌≡◌, ◌≤◌, ℕ, List, Some, length};
+ghost use Rattle.std.specs.Prelude.{◌≡◌, ◌≤◌, ℕ, List, Some, length, MatchResult};
 ghost use Rattle.cd_base.specs.Ends.{WriteAll};
+ghost use Rattle.cd_tree.specs.declared.document.Fault.{Fault};
+ghost use Rattle.cd_tree.specs.Domains.{root_of};
+ghost use Rattle.cd_tree.specs.Meaning.{node_need};
 ghost use Rattle.cd_check.specs.Checking.{Passes};
 ghost use Rattle.cd_parse.specs.WellRead.{WellRead};
-ghost use Rattle.cd_field.specs.Machine.{Machine};
-ghost use Rattle.cd_command.specs.CommandLine.{command_in};
-ghost use Rattle.cd_app.specs.Running.{Meets, IsRun, SaysOfDocument, call_of, written, check_text, read_text, lift_text, said_of};
-ghost use Rattle.cd_app.specs.Parts.{IsPlanned};
+ghost use Rattle.cd_field.specs.FieldModel.{FieldModel};
+ghost use Rattle.cd_command.specs.declared.command.Command.TheVariants as command;
+ghost use Rattle.cd_app.specs.Running.{check_text, read_text, lift_text};
+ghost use Rattle.cd_app.specs.Deeds.{one_document, deed_of, deed_in};
+ghost use Rattle.cd_app.specs.Calls.{Call, Meets, call_of};
+ghost use Rattle.cd_app.specs.Parts.{IsRead, IsRefusedBy, IsPassed, deed_for};
 
 use crate::Status;
-use crate::receive::{Accepted, receive};
-use crate::tell::{finished, said, tell};
+use crate::receive::receive;
+use crate::run::run_document;
+use crate::status::settled;
+use crate::tell::{tell, tell_of};
 use cd_base::{NoMemory, Sink, Source, WriteStop};
-use cd_command::{Command, Words, command_of};
-use cd_make::write_make;
+use cd_check::check;
+use cd_cover::Plan;
+use cd_field::Field;
+use cd_foot::Footprints;
 use cd_parse::laws::a_document_is_well_read;
 use cd_print::{lifted, print_document};
 use cd_reading::read_through;
-use cd_report::{write_accepted, write_reading, write_usage};
-use cd_tree::{Document, Script};
+use cd_report::{write_accepted, write_reading};
+use cd_tree::{Document, NodeId, Refuse, Script};
 use std::alloc::Global;
 
-/// Does what the words say, other than to run a document: `check`, `read`, `lift` and `make`. It reads the document from
-/// the source, but for `make`, and writes the text to the sink.
-pub fn plain_cd<S: Source, K: Sink>(
-    alloc: Global,
-    words: &Words,
-    source: &mut S,
-    sink: &mut K,
-) -> Status
-    requires { (with_record : _) → IsRun words.now with_record → ⊥ }
-    ensures meets { (m : Machine) → Meets (call_of words.now (S.left source.old) (S.left source.new) (S.faults source.old) (S.faults source.new) m m) (written (K.holds sink.old) (K.holds sink.new) (K.faults sink.old) (K.faults sink.new)) result }
-    ensures read_count { S.faults source.old ≤ S.faults source.new }
-    ensures write_count { K.faults sink.old ≤ K.faults sink.new }
-{
-    match command_of(alloc, words) {
-        Ok(Some(Command::Check)) => act(alloc, Command::Check, source, sink),
-        Ok(Some(Command::Read)) => act(alloc, Command::Read, source, sink),
-        Ok(Some(Command::Lift)) => act(alloc, Command::Lift, source, sink),
-        Ok(Some(Command::Make { size })) => finished(write_make(alloc, size, sink), None),
-        Ok(Some(Command::Run { .. })) => unreachable!(),
-        Ok(None) => said(write_usage(sink), Status::Usage),
-        Err(NoMemory) => Status::NoMemory,
-    }
+// What is done with a document that the checks pass, on its plan and its script.
+#[derive(Clone, Copy, Drop)]
+pub(crate) enum Action {
+    Check,
+    Read,
+    Run { with_record: bool },
 }
 
-// Does `check`, `read` or `lift` on the document that the source gives.
-fn act<S: Source, K: Sink>(alloc: Global, command: Command, source: &mut S, sink: &mut K) -> Status
-    requires { SaysOfDocument command }
-    ensures meets { (words : List (List ℕ)) (m : Machine) → command_in words ≡ Some command → Meets (call_of words (S.left source.old) (S.left source.new) (S.faults source.old) (S.faults source.new) m m) (written (K.holds sink.old) (K.holds sink.new) (K.faults sink.old) (K.faults sink.new)) result }
-    ensures read_count { S.faults source.old ≤ S.faults source.new }
-    ensures write_count { K.faults sink.old ≤ K.faults sink.new }
+// Does an action with the document that the source gives.
+pub(crate) fn act<S: Source, K: Sink, F: Field>(
+    alloc: Global,
+    action: Action,
+    source: &mut S,
+    sink: &mut K,
+    machine: &mut F,
+) -> Status
+    ensures { (words : List (List ℕ)) → deed_in words ≡ Some (deed_for action) → Meets (call_of words (S.model source.old) (S.model source.new) (F.model machine.old) (F.model machine.new)) (K.model sink.old) (K.model sink.new) result }
 {
     a_document_is_well_read();
     match receive(alloc, source) {
-        Ok(accepted) => finished(say(alloc, command, accepted, sink), None),
+        Ok(document) => judge(alloc, action, &document, sink, machine),
         Err(stop) => tell(alloc, stop, sink),
     }
 }
 
-// Writes what an action says of an accepted document.
-fn say<K: Sink>(
+// Does an action with a document, if the checks pass it.
+fn judge<K: Sink, F: Field>(
     alloc: Global,
-    command: Command,
-    accepted: Accepted,
+    action: Action,
+    document: &Document,
     sink: &mut K,
-) -> Result<(), WriteStop>
-    requires action { SaysOfDocument command }
-    requires read { WellRead accepted.document }
-    requires passes { Passes accepted.document accepted.script }
-    requires planned { IsPlanned accepted.document accepted.need }
-    ensures meets { (text : List ℕ) → said_of command accepted.document accepted.script ≡ Some text → WriteAll (K.holds sink.old) (K.holds sink.new) (K.faults sink.old) (K.faults sink.new) text result }
-    ensures count { K.faults sink.old ≤ K.faults sink.new }
+    machine: &mut F,
+) -> Status
+    requires { WellRead document.now }
+    ensures { (call : Call) → deed_in call.words ≡ Some (deed_for action) → IsRead one_document call.source_was call.source_now document.now → call.machine_was ≡ F.model machine.old → call.machine_now ≡ F.model machine.new → Meets call (K.model sink.old) (K.model sink.new) result }
 {
-    let Accepted {
-        document,
-        need,
-        script,
-    } = accepted;
-    match command {
-        Command::Check => write_check(alloc, &document, need, sink),
-        Command::Read => write_read(alloc, &document, &script, sink),
-        Command::Lift => write_lift(alloc, document, sink),
-        Command::Run { .. } | Command::Make { .. } => unreachable!(),
+    match Footprints::of(alloc, &document.tree) {
+        Ok(feet) => match check(alloc, document, &feet) {
+            Ok((plan, script)) => perform(alloc, action, document, &plan, &script, sink, machine),
+            Err(refuse) => tell_of(alloc, document, refuse, sink),
+        },
+        Err(NoMemory) => Status::NoMemory,
+    }
+}
+
+// Does an action with a document that the checks pass.
+fn perform<K: Sink, F: Field>(
+    alloc: Global,
+    action: Action,
+    document: &Document,
+    plan: &Plan,
+    script: &Script,
+    sink: &mut K,
+    machine: &mut F,
+) -> Status
+    requires { IsPassed document.now plan.now script.now }
+    ensures { (call : Call) → deed_in call.words ≡ Some (deed_for action) → IsRead one_document call.source_was call.source_now document.now → call.machine_was ≡ F.model machine.old → call.machine_now ≡ F.model machine.new → Meets call (K.model sink.old) (K.model sink.new) result }
+{
+    match action {
+        Action::Check => settled(write_check(alloc, document, plan, sink), Status::Done),
+        Action::Read => settled(write_read(alloc, document, script, sink), Status::Done),
+        Action::Run { with_record } => run_document(
+            alloc,
+            with_record,
+            document,
+            plan,
+            script,
+            sink,
+            machine,
+        ),
+    }
+}
+
+// Does `lift` with the document that the source gives. What it writes takes the document apart, so nothing may stand on it.
+pub(crate) fn lift<S: Source, K: Sink>(alloc: Global, source: &mut S, sink: &mut K) -> Status
+    ensures { (words : List (List ℕ)) (m : FieldModel) → deed_in words ≡ Some (deed_of command.Lift) → Meets (call_of words (S.model source.old) (S.model source.new) m m) (K.model sink.old) (K.model sink.new) result }
+{
+    match receive(alloc, source) {
+        Ok(document) => match passes(alloc, &document) {
+            Ok(()) => settled(write_lift(alloc, document, sink), Status::Done),
+            Err(refuse) => tell_of(alloc, &document, refuse, sink),
+        },
+        Err(stop) => tell(alloc, stop, sink),
+    }
+}
+
+// Whether the checks pass a document.
+fn passes(alloc: Global, document: &Document) -> Result<(), Refuse>
+    ensures { MatchResult result (λ _. (script : List Fault) × Passes document.now script) (λ refuse. IsRefusedBy one_document document.now refuse) }
+{
+    match Footprints::of(alloc, &document.tree) {
+        Ok(feet) => match check(alloc, document, &feet) {
+            Ok(_) => Ok(()),
+            Err(refuse) => Err(refuse),
+        },
+        Err(NoMemory) => Err(Refuse::NoMemory),
     }
 }
 
 // Writes the canonical text of a document in version 2.
 #[tactic(auto, unfolding(crate::specs::Running::lift_text))]
 fn write_lift<K: Sink>(alloc: Global, document: Document, sink: &mut K) -> Result<(), WriteStop>
-    ensures meets { WriteAll (K.holds sink.old) (K.holds sink.new) (K.faults sink.old) (K.faults sink.new) (lift_text document) result }
-    ensures count { K.faults sink.old ≤ K.faults sink.new }
+    ensures { WriteAll (K.model sink.old) (K.model sink.new) (lift_text document) result }
 {
     print_document(alloc, &lifted(document), sink)
 }
@@ -98,17 +140,24 @@ fn write_lift<K: Sink>(alloc: Global, document: Document, sink: &mut K) -> Resul
 fn write_check<K: Sink>(
     alloc: Global,
     document: &Document,
-    need: u32,
+    plan: &Plan,
     sink: &mut K,
 ) -> Result<(), WriteStop>
-    requires { IsPlanned document.now need }
-    ensures meets { WriteAll (K.holds sink.old) (K.holds sink.new) (K.faults sink.old) (K.faults sink.new) (check_text document.now) result }
-    ensures count { K.faults sink.old ≤ K.faults sink.new }
+    requires { plan.now.tree ≡ document.now.tree }
+    ensures { WriteAll (K.model sink.old) (K.model sink.new) (check_text document.now) result }
 {
-    match write_accepted(alloc, document, need, sink) {
+    match write_accepted(alloc, document, whole_need(plan), sink) {
         Ok(()) => print_document(alloc, document, sink),
         Err(stop) => Err(stop),
     }
+}
+
+// The blocks that a run of the whole program needs.
+fn whole_need(plan: &Plan) -> u32
+    ensures { result ≡ node_need (root_of plan.now.tree.domains) }
+{
+    prove!(0 < plan.tree().count());
+    plan.need(NodeId(0))
 }
 
 // Writes the one-thread reading of a document's program under its script.
@@ -120,8 +169,7 @@ fn write_read<K: Sink>(
     sink: &mut K,
 ) -> Result<(), WriteStop>
     requires { length script.now ≤ 256 }
-    ensures meets { WriteAll (K.holds sink.old) (K.holds sink.new) (K.faults sink.old) (K.faults sink.new) (read_text document.now script.now) result }
-    ensures count { K.faults sink.old ≤ K.faults sink.new }
+    ensures { WriteAll (K.model sink.old) (K.model sink.new) (read_text document.now script.now) result }
 {
     let tree = &document.tree;
     prove!(0 < tree.count());

@@ -2,12 +2,12 @@
 #![tactic(auto)]
 
 mod actions;
+mod call;
 pub mod laws;
 mod receive;
 mod run;
 mod status;
 mod tell;
 
-pub use actions::plain_cd;
-pub use run::run_cd;
+pub use call::run_cd;
 pub use status::Status;

@@ -1,6 +1,9 @@
 ghost use Rattle.std.specs.Prelude.{◌≡◌};
 ghost use Rattle.cd_app.specs.Codes.{code_of};
+ghost use Rattle.cd_app.specs.Outcomes.{status_by};
+ghost use Rattle.cd_app.specs.Parts.{behind_fault, settled};
 
+use cd_base::WriteStop;
 use cd_tree::{Cause, Refusal};
 
 /// How a call of the program ends.
@@ -39,5 +42,37 @@ impl Status {
             Status::NoMemory => 6,
             Status::NotBuilt => 9,
         }
+    }
+
+    // What becomes of the status where the sink failed: it yields if its text is the call's answer, and it stays if its
+    // line only says why there is none.
+    fn behind_fault(self) -> Status
+        ensures { result ≡ behind_fault self }
+    {
+        match self {
+            Status::Done | Status::Exhausted(_) => Status::WriteFault,
+            status => status,
+        }
+    }
+}
+
+// The status of a run with this cause, or none.
+pub(crate) fn status_by(cause: Option<Cause>) -> Status
+    ensures { result ≡ status_by cause }
+{
+    match cause {
+        Some(cause) => Status::Exhausted(cause),
+        None => Status::Done,
+    }
+}
+
+// The status of a call that wrote the text of this one.
+pub(crate) fn settled(wrote: Result<(), WriteStop>, status: Status) -> Status
+    ensures { result ≡ settled wrote status }
+{
+    match wrote {
+        Ok(()) => status,
+        Err(WriteStop::Failed) => status.behind_fault(),
+        Err(WriteStop::NoMemory) => Status::NoMemory,
     }
 }

@@ -1,48 +1,44 @@
-ghost use Rattle.std.specs.Prelude.{◌≡◌, ◌≤◌, Err};
-ghost use Rattle.cd_command.specs.CommandLine.{command_in};
-ghost use Rattle.cd_app.specs.Running.{Call, Meets, TakesDocument, written};
-ghost use Rattle.cd_app.specs.Parts.{Receives, status_said, status_written};
+ghost use Rattle.std.specs.Prelude.{◌≡◌, Some};
+ghost use Rattle.cd_app.specs.Deeds.{one_document, intake_in};
+ghost use Rattle.cd_app.specs.Calls.{Call, Meets};
+ghost use Rattle.cd_app.specs.Parts.{IsNone, IsRead, IsRefusedBy};
 
 use crate::Status;
 use crate::receive::Stop;
-use cd_base::{Sink, WriteStop};
+use crate::status::settled;
+use cd_base::Sink;
 use cd_report::{write_read_fault, write_refusal};
-use cd_tree::Cause;
+use cd_tree::{Document, Refuse};
 use std::alloc::Global;
 
-// Writes why there is no accepted document.
+// Writes why there is no document.
 pub(crate) fn tell<K: Sink>(alloc: Global, stop: Stop, sink: &mut K) -> Status
-    ensures meets { (call : Call) → TakesDocument (command_in call.words) → call.now ≡ call.was → Receives call.had call.left call.read_before call.read_after (Err stop) → Meets call (written (K.holds sink.old) (K.holds sink.new) (K.faults sink.old) (K.faults sink.new)) result }
-    ensures count { K.faults sink.old ≤ K.faults sink.new }
+    ensures { (call : Call) → intake_in call.words ≡ Some one_document → call.machine_now ≡ call.machine_was → IsNone one_document call.source_was call.source_now stop → Meets call (K.model sink.old) (K.model sink.new) result }
 {
     match stop {
-        Stop::Refused(document, refusal) => {
-            let wrote = write_refusal(alloc, document.as_ref(), &refusal, sink);
-            said(wrote, Status::Refused(refusal))
+        Stop::Refused(refusal) => {
+            let wrote = write_refusal(alloc, None, &refusal, sink);
+            settled(wrote, Status::Refused(refusal))
         }
-        Stop::ReadFault => said(write_read_fault(sink), Status::ReadFault),
+        Stop::ReadFault => settled(write_read_fault(sink), Status::ReadFault),
         Stop::NoMemory => Status::NoMemory,
     }
 }
 
-// The status of a call that wrote its own line, which it keeps where the sink failed.
-pub(crate) fn said(wrote: Result<(), WriteStop>, status: Status) -> Status
-    ensures { result ≡ status_said wrote status }
+// Writes why a document is not accepted.
+pub(crate) fn tell_of<K: Sink>(
+    alloc: Global,
+    document: &Document,
+    refuse: Refuse,
+    sink: &mut K,
+) -> Status
+    ensures { (call : Call) → intake_in call.words ≡ Some one_document → call.machine_now ≡ call.machine_was → IsRead one_document call.source_was call.source_now document.now → IsRefusedBy one_document document.now refuse → Meets call (K.model sink.old) (K.model sink.new) result }
 {
-    match wrote {
-        Ok(()) | Err(WriteStop::Failed) => status,
-        Err(WriteStop::NoMemory) => Status::NoMemory,
-    }
-}
-
-// The status of a call that wrote its text, with the cause of its run, where there is one.
-pub(crate) fn finished(wrote: Result<(), WriteStop>, cause: Option<Cause>) -> Status
-    ensures { result ≡ status_written wrote cause }
-{
-    match (wrote, cause) {
-        (Ok(()), None) => Status::Done,
-        (Ok(()), Some(cause)) => Status::Exhausted(cause),
-        (Err(WriteStop::Failed), _) => Status::WriteFault,
-        (Err(WriteStop::NoMemory), _) => Status::NoMemory,
+    match refuse {
+        Refuse::Refused(refusal) => {
+            let wrote = write_refusal(alloc, Some(document), &refusal, sink);
+            settled(wrote, Status::Refused(refusal))
+        }
+        Refuse::NoMemory => Status::NoMemory,
     }
 }

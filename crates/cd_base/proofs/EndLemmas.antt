@@ -5,8 +5,7 @@ use Rattle.std.proofs.lemmas.Bool.{cases_lt}
 use Rattle.std.proofs.lemmas.List.{take_at, drop-drop, drop_all, take_rest, length-take-le}
 use Rattle.std.proofs.KnownBytes.{Consumes-trans, Appends-trans}
 use Rattle.std.specs.Io.KnownBytes.{Consumes, Appends}
-use Rattle.std.specs.Prelude.{Option}
-use Rattle.cd_base.specs.Ends.{Rose, Took, TookAtMost}
+use Rattle.cd_base.specs.Ends.{SourceModel, SinkModel, Rose, Took, TookCount, TookAtMost, Grew}
 
 -- a count that rose in a later part of a time rose in all of it
 pub Rose-before : (a b c : ℕ) → a ≤ b → Rose b c → Rose a c
@@ -22,19 +21,25 @@ Rose-after a b c h k (inl p) = inl (omega arith)
 Rose-after a b c h k (inr p) = Rose-kept a b c h k p
 
 -- bytes that were taken, and then more
-pub Took-more : (a b d : Option (List ℕ)) (xs ys : List ℕ) (n m : ℕ) → Consumes a b xs → Consumes b d ys → n ≡ length ys → length xs + n ≡ m → Took a d m
-Took-more a b d xs ys n m p q h k = (xs ++ ys, Consumes-trans a b d xs ys p q, length-append xs ys ∙ omega arith)
+Took-then : (a b d : SourceModel) (xs ys : List ℕ) → Took a b xs → Consumes b.left d.left ys → b.faults ≤ d.faults → Took a d (xs ++ ys)
+Took-then a b d xs ys p q h = (Consumes-trans a.left b.left d.left xs ys p.0 q, omega (arith, p.1, h))
 
-pub TookAtMost-more : (a b d : Option (List ℕ)) (xs ys : List ℕ) (n m : ℕ) → Consumes a b xs → Consumes b d ys → n ≡ length ys → length xs + n ≤ m
-    → TookAtMost a d m
-TookAtMost-more a b d xs ys n m p q h k = (xs ++ ys, Consumes-trans a b d xs ys p q, omega (arith, length-append xs ys))
+pub TookCount-more : (a b d : SourceModel) (xs ys : List ℕ) (n m : ℕ) → Took a b xs → Consumes b.left d.left ys → b.faults ≤ d.faults → n ≡ length ys
+    → length xs + n ≡ m → TookCount a d m
+TookCount-more a b d xs ys n m p q h e k = (xs ++ ys, Took-then a b d xs ys p q h, length-append xs ys ∙ omega arith)
+
+pub TookAtMost-more : (a b d : SourceModel) (xs ys : List ℕ) (n m : ℕ) → Took a b xs → Consumes b.left d.left ys → b.faults ≤ d.faults → n ≡ length ys
+    → length xs + n ≤ m → TookAtMost a d m
+TookAtMost-more a b d xs ys n m p q h e k = (xs ++ ys, Took-then a b d xs ys p q h, omega (arith, length-append xs ys))
 
 -- a front that was written, and then n bytes of what was left
-pub Appends-next : (a b d : Option (List ℕ)) (bytes : List ℕ) (i n : ℕ) → Appends a b (take i bytes)
-    → Appends b d (take n (take (length bytes - i) (drop i bytes))) → Appends a d (take (i + n) bytes)
-Appends-next a b d bytes i n p q =
-    let next : Appends b d (take n (drop i bytes)) = subst (λ (l : List ℕ). Appends b d (take n l)) (take_rest bytes i) q in
-    subst (Appends a d) (sym (take-add i n bytes)) (Appends-trans a b d (take i bytes) (take n (drop i bytes)) p next)
+pub Grew-next : (a b d : SinkModel) (bytes : List ℕ) (i n : ℕ) → Grew a b (take i bytes)
+    → Appends b.holds d.holds (take n (take (length bytes - i) (drop i bytes))) → b.faults ≤ d.faults → Grew a d (take (i + n) bytes)
+Grew-next a b d bytes i n p q h =
+    let next : Appends b.holds d.holds (take n (drop i bytes)) = subst (λ (l : List ℕ). Appends b.holds d.holds (take n l)) (take_rest bytes i) q in (
+      subst (Appends a.holds d.holds) (sym (take-add i n bytes)) (Appends-trans a.holds b.holds d.holds (take i bytes) (take n (drop i bytes)) p.0 next),
+      omega (arith, p.1, h),
+    )
 
 -- n bytes moved into the front of a buffer are what was left before, up to what is left after
 moved_bytes : (bytes copy tail : List ℕ) (i n : ℕ) → copy ≡ take n (drop i bytes) → length copy ≡ n
@@ -44,11 +49,10 @@ moved_bytes bytes copy tail i n e h =
     ∙ take-append-drop n (drop i bytes))
 
 -- one read of the bytes from `i` on, which gives at most `step` of them into a buffer with room
-pub read_from : (bytes buf copy : List ℕ) (i n m step : ℕ) → copy ≡ take n (take (length bytes - i) (drop i bytes)) → length copy ≡ length (take n buf)
-    → m ≡ min (length (take (length bytes - i) (drop i bytes))) step → n ≡ min m (length buf) → 0 < step → 0 < length buf
+pub read_from : (bytes buf copy : List ℕ) (i n step : ℕ) → copy ≡ take n (take (length bytes - i) (drop i bytes)) → length copy ≡ length (take n buf)
+    → n ≡ min (min (length bytes - i) step) (length buf) → 0 < step → 0 < length buf
     → (drop i bytes ≡ take n (copy ++ drop n buf) ++ drop (i + n) bytes) × (n ≡ 0 → 0 < length (copy ++ drop n buf) → drop (i + n) bytes ≡ [])
-read_from bytes buf copy i n m step moved same most count some room =
+read_from bytes buf copy i n step moved same count some room =
     let rest = take_rest bytes i in
     let size : length copy ≡ n = same ∙ length-take-le n buf (omega arith) in
-    let left : length (take (length bytes - i) (drop i bytes)) ≡ length bytes - i = ap length rest ∙ length-drop i bytes in
     (moved_bytes bytes copy (drop n buf) i n (moved ∙ ap (take n) rest) size, λ z h. drop_all (i + n) bytes (omega arith))

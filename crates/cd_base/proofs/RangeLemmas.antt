@@ -126,11 +126,8 @@ length-with_range r (s ∷ rs) =
     (λ e f. omega (arith, length-with_range (hull r s) rs))
 
 -- both for a list that is known to be this one
-pub Keeps-with_range : (r : Range) (rs new : List Range) → new ≡ with_range r rs → r.low < r.high → IsOrdered rs → length rs + 1 < 2 ^ 32
-    → (length new < 2 ^ 32) × IsOrdered new
-Keeps-with_range r rs new e h o k =
-    let few = length-with_range r rs in
-    subst (λ (l : List Range). (length l < 2 ^ 32) × IsOrdered l) (sym e) (omega arith, IsOrdered-with_range r rs h o)
+pub IsOrdered-new : (r : Range) (rs new : List Range) → new ≡ with_range r rs → r.low < r.high → IsOrdered rs → IsOrdered new
+IsOrdered-new r rs new e h o = subst IsOrdered (sym e) (IsOrdered-with_range r rs h o)
 
 pub length-new : (r : Range) (rs old new : List Range) → new ≡ with_range r rs → rs ≡ old → length new ≤ length old + 1
 length-new r rs old new e f = omega (arith, length-with_range r rs, ap length e, ap length f)

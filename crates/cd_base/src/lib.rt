@@ -3,6 +3,7 @@
 #![tactic(auto)]
 
 mod bytes;
+mod calls;
 mod items;
 mod least;
 mod memory_sink;

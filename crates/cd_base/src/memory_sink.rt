@@ -1,5 +1,10 @@
-ghost use Rattle.std.specs.Prelude.{◌≡◌, ℕ, ◌<◌, [], Some};
+//! A sink that keeps its bytes in memory.
+ghost use Rattle.std.specs.Prelude.{◌≡◌, ◌↔◌, ◌<◌, ◌≤◌, [], length, min, Some, IfOk, IsTrue};
+ghost use Rattle.std.specs.Io.KnownBytes.{WriteAppends};
+ghost use Rattle.cd_base.specs.Ends.{Rose, OnFailed};
+ghost use Rattle.cd_base.specs.MemoryEnds.{fails_next, with_call};
 
+use crate::calls::Calls;
 use crate::{Sink, WriteStop};
 use std::alloc::Global;
 
@@ -8,9 +13,7 @@ use std::alloc::Global;
 pub struct MemorySink {
     bytes: Vec<u8>,
     step: usize,
-    fails: Vec<u64>,
-    calls: u64,
-    faults: u64,
+    calls: Calls,
     ghost takes: { 0 < step },
 }
 
@@ -19,35 +22,43 @@ impl MemorySink {
     /// Each write takes memory.
     pub fn new(alloc: Global, step: usize, fails: Vec<u64>) -> MemorySink
         requires { 0 < step }
-        ensures holds { ⟦<MemorySink as Sink>⟧.holds result ≡ Some [] }
-        ensures faults { ⟦<MemorySink as Sink>⟧.faults result ≡ 0 }
+        ensures model { ⟦<MemorySink as Sink>⟧.model result ≡ record { holds = Some []; faults = 0 } }
+        ensures step { result.step ≡ step }
+        ensures calls { result.calls ≡ record { fails = fails; count = 0; faults = 0 } }
     {
         MemorySink {
             bytes: Vec::new(alloc),
             step,
-            fails,
-            calls: 0,
-            faults: 0,
+            calls: Calls::new(fails),
         }
     }
 
     /// What was written so far. It takes no memory.
     pub fn bytes(&self) -> &[u8]
-        ensures { ⟦<MemorySink as Sink>⟧.holds self.now ≡ Some result.now }
+        ensures { (⟦<MemorySink as Sink>⟧.model self.now).holds ≡ Some result.now }
     {
         self.bytes.as_slice()
     }
 }
 
 impl Sink for MemorySink {
-    ghost holds = { λ it. Some it.bytes.items };
+    ghost model = { λ it. record { holds = Some it.bytes.items; faults = it.calls.faults } };
 
-    ghost faults = { λ it. it.faults };
-
-    fn write(&mut self, piece: &[u8]) -> Result<usize, WriteStop> {
-        self.calls = self.calls.saturating_add(1);
-        if self.fails.contains(&self.calls) {
-            self.faults = self.faults.saturating_add(1);
+    // What is said beyond the trait's own clauses serves those who call at this type: the call is counted, fails exactly
+    // where it was chosen to, and else takes as much as the step allows, if there is memory.
+    fn write(&mut self, piece: &[u8]) -> Result<usize, WriteStop>
+        requires { 0 < length piece.now }
+        ensures some { IfOk result (λ n. 0 < n) }
+        ensures bound { IfOk result (λ n. n ≤ length piece.now) }
+        ensures bytes { WriteAppends (⟦<MemorySink as Sink>⟧.model self.old).holds (⟦<MemorySink as Sink>⟧.model self.new).holds result piece.now }
+        ensures failed { OnFailed result (Rose self.old.calls.faults self.new.calls.faults) }
+        ensures count { self.old.calls.faults ≤ self.new.calls.faults }
+        ensures counted { self.new.calls ≡ with_call self.old.calls }
+        ensures fails { (result ≡ Err WriteStop.Failed) ↔ IsTrue (fails_next self.old.calls) }
+        ensures takes { IfOk result (λ n. n ≡ min (length piece.now) self.old.step) }
+        ensures step { self.new.step ≡ self.old.step }
+    {
+        if self.calls.next() {
             return Err(WriteStop::Failed);
         }
         let count = piece.len().min(self.step);

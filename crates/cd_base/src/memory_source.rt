@@ -1,5 +1,11 @@
-ghost use Rattle.std.specs.Prelude.{◌≡◌, ℕ, ◌<◌, ◌≤◌, length, drop, Some};
+//! A source over bytes in memory.
+ghost use Rattle.std.specs.Prelude.{◌≡◌, ◌↔◌, ◌-◌, ◌<◌, ◌≤◌, length, drop, min, Some, IfOk, IsErr, IsTrue, OnErr};
+ghost use Rattle.std.specs.Io.{ReadsAtMost};
+ghost use Rattle.std.specs.Io.KnownBytes.{ReadConsumes};
+ghost use Rattle.cd_base.specs.Ends.{Rose};
+ghost use Rattle.cd_base.specs.MemoryEnds.{fails_next, with_call};
 
+use crate::calls::Calls;
 use crate::{Failed, Source};
 
 /// A source of bytes in memory, which gives a few bytes a call and fails at chosen calls. Contracts know what it has left.
@@ -8,9 +14,7 @@ pub struct MemorySource {
     bytes: Vec<u8>,
     taken: usize,
     step: usize,
-    fails: Vec<u64>,
-    calls: u64,
-    faults: u64,
+    calls: Calls,
     ghost gives: { 0 < step },
     ghost within: { taken ≤ length bytes.items },
 }
@@ -20,33 +24,47 @@ impl MemorySource {
     /// `fails`.
     pub fn new(bytes: Vec<u8>, step: usize, fails: Vec<u64>) -> MemorySource
         requires { 0 < step }
-        ensures left { ⟦<MemorySource as Source>⟧.left result ≡ Some bytes.items }
-        ensures faults { ⟦<MemorySource as Source>⟧.faults result ≡ 0 }
+        ensures model { ⟦<MemorySource as Source>⟧.model result ≡ record { left = Some bytes.items; faults = 0 } }
+        ensures step { result.step ≡ step }
+        ensures calls { result.calls ≡ record { fails = fails; count = 0; faults = 0 } }
     {
         MemorySource {
             bytes,
             taken: 0,
             step,
-            fails,
-            calls: 0,
-            faults: 0,
+            calls: Calls::new(fails),
         }
+    }
+
+    // How many bytes a call gives into a buffer with this room.
+    fn given(&self, room: usize) -> usize
+        ensures { result ≡ min (min (length self.now.bytes.items - self.now.taken) self.now.step) room }
+    {
+        (self.bytes.len() - self.taken).min(self.step).min(room)
     }
 }
 
 impl Source for MemorySource {
-    ghost left = { λ it. Some (drop it.taken it.bytes.items) };
+    ghost model = { λ it. record { left = Some (drop it.taken it.bytes.items); faults = it.calls.faults } };
 
-    ghost faults = { λ it. it.faults };
-
-    fn read(&mut self, buf: &mut [u8]) -> Result<usize, Failed> {
-        self.calls = self.calls.saturating_add(1);
-        if self.fails.contains(&self.calls) {
-            self.faults = self.faults.saturating_add(1);
+    // What is said beyond the trait's own clauses serves those who call at this type: the call is counted, fails exactly
+    // where it was chosen to, and else gives as much as the step, the rest and the buffer allow.
+    fn read(&mut self, buf: &mut [u8]) -> Result<usize, Failed>
+        requires { 0 < length buf.old }
+        ensures bound { ReadsAtMost result buf.new }
+        ensures bytes { ReadConsumes (⟦<MemorySource as Source>⟧.model self.old).left (⟦<MemorySource as Source>⟧.model self.new).left result buf.new }
+        ensures failed { OnErr result (Rose self.old.calls.faults self.new.calls.faults) }
+        ensures count { self.old.calls.faults ≤ self.new.calls.faults }
+        ensures counted { self.new.calls ≡ with_call self.old.calls }
+        ensures fails { IsErr result ↔ IsTrue (fails_next self.old.calls) }
+        ensures gives { IfOk result (λ n. n ≡ min (min (length self.old.bytes.items - self.old.taken) self.old.step) (length buf.old)) }
+        ensures step { self.new.step ≡ self.old.step }
+    {
+        if self.calls.next() {
             return Err(Failed);
         }
+        let count = self.given(buf.len());
         let rest = &self.bytes[self.taken..];
-        let count = rest.len().min(self.step).min(buf.len());
         buf[..count].copy_from_slice(&rest[..count]);
         self.taken += count;
         Ok(count)

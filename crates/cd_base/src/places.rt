@@ -1,4 +1,5 @@
-ghost use Rattle.std.specs.Prelude.{◌≡◌, ◌+◌, ◌<◌, ◌≤◌, ◌^◌, ◌&&◌, ◌||◌, [], length, All, IfOk, OnOk, OnErr};
+//! Sets of places.
+ghost use Rattle.std.specs.Prelude.{◌≡◌, ◌+◌, ◌<◌, ◌≤◌, ◌&&◌, ◌||◌, [], length, All, IfOk, OnOk, OnErr};
 ghost use Rattle.cd_base.specs.declared.place.Place.{Place};
 ghost use Rattle.cd_base.specs.declared.place.Range.{Range};
 ghost use Rattle.cd_base.specs.Words.{in_range, in_ranges};
@@ -18,7 +19,7 @@ pub struct Places {
 }
 
 impl Model for Places {
-    ghost use Rattle.std.specs.Prelude.{List, ◌<◌, ◌^◌, length};
+    ghost use Rattle.std.specs.Prelude.{List};
     ghost use Rattle.cd_base.specs.declared.place.Range.{Range};
     ghost use Rattle.cd_base.specs.Places.{IsOrdered};
 
@@ -26,7 +27,7 @@ impl Model for Places {
 
     ghost view = { λ set. set.ranges.items };
 
-    ghost invariant = { λ set. (length set.ranges.items < 2 ^ 32) × IsOrdered set.ranges.items };
+    ghost invariant = { λ set. IsOrdered set.ranges.items };
 }
 
 impl Places {
@@ -42,8 +43,7 @@ impl Places {
 
     /// The set of the places of some ranges. It takes time n log n in their number.
     pub fn of(alloc: Global, ranges: &[Range]) -> Result<Places, NoMemory>
-        requires full { All (λ (range : Range). range.low < range.high) ranges.now }
-        requires few { length ranges.now < 2 ^ 32 }
+        requires { All (λ (range : Range). range.low < range.high) ranges.now }
         ensures places { IfOk result (λ set. (q : Place) → in_ranges set q ≡ in_ranges ranges.now q) }
         ensures few { IfOk result (λ set. length set ≤ length ranges.now) }
     {
@@ -74,8 +74,7 @@ impl Places {
 
     /// Adds the places of a range. The set takes at most one range more.
     pub fn add(&mut self, range: Range) -> Result<(), NoMemory>
-        requires some { range.low < range.high }
-        requires room { length self.old + 1 < 2 ^ 32 }
+        requires { range.low < range.high }
         ensures places { OnOk result ((q : _) → in_ranges self.new q ≡ (in_range range q || in_ranges self.old q)) }
         ensures few { length self.new ≤ length self.old + 1 }
         ensures unchanged { OnErr result (self.new ≡ self.old) }
@@ -87,7 +86,6 @@ impl Places {
 
     /// Adds the places of another set. It takes one pass over both, and memory for the new ranges beside the old.
     pub fn union(&mut self, other: &Places) -> Result<(), NoMemory>
-        requires room { length self.old + length other.now < 2 ^ 32 }
         ensures places { OnOk result ((q : Place) → in_ranges self.new q ≡ (in_ranges self.old q || in_ranges other.now q)) }
         ensures few { length self.new ≤ length self.old + length other.now }
         ensures unchanged { OnErr result (self.new ≡ self.old) }
@@ -138,7 +136,6 @@ impl Places {
     pub fn ranges(&self) -> &[Range]
         ensures value { result.now ≡ self.now }
         ensures order { IsOrdered self.now }
-        ensures few { length self.now < 2 ^ 32 }
     {
         self.ranges.as_slice()
     }

@@ -1,6 +1,6 @@
-ghost use Rattle.std.specs.Prelude.{ℕ, ◌<◌, ◌≤◌, List, Option, length, IfOk};
+ghost use Rattle.std.specs.Prelude.{◌<◌, ◌≤◌, length, IfOk};
 ghost use Rattle.std.specs.Io.KnownBytes.{WriteAppends};
-ghost use Rattle.cd_base.specs.Ends.{Rose, OnFailed};
+ghost use Rattle.cd_base.specs.Ends.{SinkModel, Rose, OnFailed};
 
 /// Why a write did not take place.
 #[derive(Debug, Clone, Copy, PartialEq, Eq)]
@@ -11,11 +11,10 @@ pub enum WriteStop {
     NoMemory,
 }
 
-/// Where bytes go. Contracts may know what it holds, and know a count of its faults that never falls.
+/// Where bytes go. Contracts see it as a model: the bytes that it holds, where they are known, and a count of its faults,
+/// which never falls.
 pub trait Sink {
-    ghost holds: { Self → Option (List ℕ) };
-
-    ghost faults: { Self → ℕ };
+    ghost model: { Self → SinkModel };
 
     /// Appends bytes from the front of `piece` and says how many, at least one. After an error nothing was appended, and
     /// the write may be tried again.
@@ -23,7 +22,7 @@ pub trait Sink {
         requires { 0 < length piece.now }
         ensures some { IfOk result (λ n. 0 < n) }
         ensures bound { IfOk result (λ n. n ≤ length piece.now) }
-        ensures bytes { WriteAppends (holds self.old) (holds self.new) result piece.now }
-        ensures failed { OnFailed result (Rose (faults self.old) (faults self.new)) }
-        ensures count { faults self.old ≤ faults self.new };
+        ensures bytes { WriteAppends (model self.old).holds (model self.new).holds result piece.now }
+        ensures failed { OnFailed result (Rose (model self.old).faults (model self.new).faults) }
+        ensures count { (model self.old).faults ≤ (model self.new).faults };
 }

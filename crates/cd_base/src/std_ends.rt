@@ -1,6 +1,9 @@
-//! The ends of a running program, over the standard reader and writer. This is the trusted edge: no contract says which
-//! bytes a file, a socket or a terminal gives or takes, so these tell nothing of content, and only count their faults.
-ghost use Rattle.std.specs.Prelude.{◌≡◌, ℕ, None};
+//! The ends of a running program, over a reader and a writer of the standard library. What such a reader has left and such a
+//! writer holds, contracts know as far as it tells them: bytes in memory do, while a file, a socket or a terminal does not.
+ghost use Rattle.std.specs.Prelude.{◌≡◌, ◌<◌, ◌≤◌, length, IfOk, OnOk, OnErr};
+ghost use Rattle.std.specs.Io.{ReadsAtMost};
+ghost use Rattle.std.specs.Io.KnownBytes.{ReadConsumes, WriteAppends};
+ghost use Rattle.cd_base.specs.Ends.{Rose, OnFailed};
 
 use crate::{Failed, Sink, Source, WriteStop};
 use std::io;
@@ -15,18 +18,24 @@ pub struct StdSource<R> {
 impl<R: io::Read + Drop> StdSource<R> {
     /// A source of what the reader gives, with no fault so far.
     pub fn new(reader: R) -> StdSource<R>
-        ensures { ⟦<StdSource<R> as Source>⟧.faults result ≡ 0 }
+        ensures { ⟦<StdSource<R> as Source>⟧.model result ≡ record { left = R.remaining reader; faults = 0 } }
     {
         StdSource { reader, faults: 0 }
     }
 }
 
 impl<R: io::Read + Drop> Source for StdSource<R> {
-    ghost left = { λ _. None };
+    ghost model = { λ it. record { left = R.remaining it.reader; faults = it.faults } };
 
-    ghost faults = { λ it. it.faults };
-
-    fn read(&mut self, buf: &mut [u8]) -> Result<usize, Failed> {
+    // Beyond the trait's own clauses, a read that succeeds is no fault.
+    fn read(&mut self, buf: &mut [u8]) -> Result<usize, Failed>
+        requires { 0 < length buf.old }
+        ensures bound { ReadsAtMost result buf.new }
+        ensures bytes { ReadConsumes (R.remaining self.old.reader) (R.remaining self.new.reader) result buf.new }
+        ensures failed { OnErr result (Rose self.old.faults self.new.faults) }
+        ensures count { self.old.faults ≤ self.new.faults }
+        ensures kept { OnOk result (self.new.faults ≡ self.old.faults) }
+    {
         match self.reader.read(buf) {
             Ok(count) => Ok(count),
             Err(_) => {
@@ -47,19 +56,26 @@ pub struct StdSink<W> {
 impl<W: io::Write + Drop> StdSink<W> {
     /// A sink for what the writer takes, with no fault so far.
     pub fn new(writer: W) -> StdSink<W>
-        ensures { ⟦<StdSink<W> as Sink>⟧.faults result ≡ 0 }
+        ensures { ⟦<StdSink<W> as Sink>⟧.model result ≡ record { holds = W.contents writer; faults = 0 } }
     {
         StdSink { writer, faults: 0 }
     }
 }
 
 impl<W: io::Write + Drop> Sink for StdSink<W> {
-    ghost holds = { λ _. None };
+    ghost model = { λ it. record { holds = W.contents it.writer; faults = it.faults } };
 
-    ghost faults = { λ it. it.faults };
-
-    // A writer that takes nothing would never take the rest: that is a fault.
-    fn write(&mut self, piece: &[u8]) -> Result<usize, WriteStop> {
+    // A writer that takes nothing would never take the rest: that is a fault. Beyond the trait's own clauses, a write that
+    // succeeds is no fault, and each that does not is one.
+    fn write(&mut self, piece: &[u8]) -> Result<usize, WriteStop>
+        requires { 0 < length piece.now }
+        ensures some { IfOk result (λ n. 0 < n) }
+        ensures bound { IfOk result (λ n. n ≤ length piece.now) }
+        ensures bytes { WriteAppends (W.contents self.old.writer) (W.contents self.new.writer) result piece.now }
+        ensures failed { OnErr result (Rose self.old.faults self.new.faults) }
+        ensures count { self.old.faults ≤ self.new.faults }
+        ensures kept { OnOk result (self.new.faults ≡ self.old.faults) }
+    {
         match self.writer.write(piece) {
             Ok(count) if 0 < count => Ok(count),
             _ => {

@@ -95,7 +95,7 @@ fn ranges_join_where_they_overlap_or_touch(rt: HostRuntime) -> Result<(), Fail> 
 
 // The set of some ranges, of which none is to be empty.
 fn set(alloc: Global, ranges: &[Range]) -> Result<Places, Fail> {
-    if ranges.len() < 100 && ranges.iter().all(|range| range.low < range.high) {
+    if ranges.iter().all(|range| range.low < range.high) {
         Ok(Places::of(alloc, ranges)?)
     } else {
         Ok(Places::new(alloc))
@@ -105,9 +105,7 @@ fn set(alloc: Global, ranges: &[Range]) -> Result<Places, Fail> {
 // The two sets as one.
 fn union(alloc: Global, one: &Places, other: &Places) -> Result<Places, Fail> {
     let mut both = one.try_clone(alloc)?;
-    if both.ranges().len() < 100 && other.ranges().len() < 100 {
-        both.union(other)?;
-    }
+    both.union(other)?;
     Ok(both)
 }
 
@@ -196,7 +194,7 @@ fn small_sets(alloc: Global) -> Result<Vec<Places>, Fail> {
     for mask in 0..1024u32 {
         let mut places = Places::new(alloc);
         for bit in 0..10u32 {
-            if mask >> bit & 1 == 1 && places.ranges().len() < 100 {
+            if mask >> bit & 1 == 1 {
                 places.add(range(bit / 5, bit % 5, bit % 5 + 1))?;
             }
         }

@@ -1,4 +1,3 @@
-ghost use Rattle.std.specs.Prelude.{◌≡◌, ◌≤◌};
 ghost use Rattle.cd_base.specs.Ends.{ReadAll, WriteAll};
 
 use crate::{Bytes, Failed, Sink, Source, WriteStop};
@@ -41,8 +40,7 @@ const PIECE: usize = 4096;
 
 /// Reads to the end, in pieces. It never asks for more than one byte past the limit, so what follows stays unread.
 pub fn read_all<S: Source>(alloc: Global, source: &mut S, limit: u32) -> Result<Bytes, ReadStop>
-    ensures meets { ReadAll (S.left source.old) (S.left source.new) (S.faults source.old) (S.faults source.new) limit result }
-    ensures count { S.faults source.old ≤ S.faults source.new }
+    ensures { ReadAll (S.model source.old) (S.model source.new) limit result }
 {
     let mut bytes = Vec::new(alloc);
     let mut buffer = [0; PIECE];
@@ -63,8 +61,7 @@ pub fn read_all<S: Source>(alloc: Global, source: &mut S, limit: u32) -> Result<
 
 /// Writes all of `bytes`, in as many writes as the sink needs.
 pub fn write_all<K: Sink>(sink: &mut K, bytes: &[u8]) -> Result<(), WriteStop>
-    ensures meets { WriteAll (K.holds sink.old) (K.holds sink.new) (K.faults sink.old) (K.faults sink.new) bytes.now result }
-    ensures count { K.faults sink.old ≤ K.faults sink.new }
+    ensures { WriteAll (K.model sink.old) (K.model sink.new) bytes.now result }
 {
     let mut written = 0;
     while written < bytes.len() {

@@ -1,2 +1,3 @@
 pub mod OneRefusal
 pub mod Versions
+pub mod ThereLemmas

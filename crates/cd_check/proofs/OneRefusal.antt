@@ -1,18 +1,15 @@
 -- A document has one first refusal, since each of its checks has one.
-use Rattle.std.proofs.Common.{◌≡◌, List, Option, None, Some, refl, inl, inr}
+use Rattle.std.proofs.Common.{◌≡◌, List, [], ◌∷◌, Option, None, Some, refl, sym, ◌∙◌, inl, inr}
 use Rattle.cd_tree.specs.declared.document.Document.{Document}
 use Rattle.cd_tree.specs.declared.document.Fault.{Fault}
 use Rattle.cd_tree.specs.declared.refusal.Refusal.{Refusal}
-use Rattle.cd_tree.specs.Outlines.{IsTree}
-use Rattle.cd_tree.specs.Refusals.{Then}
+use Rattle.cd_tree.specs.TreeModel.{IsTree}
+use Rattle.cd_tree.specs.Refusals.{Then, FirstOf}
 use Rattle.cd_foot.specs.Laws.{FirstOverlapIsOne}
-use Rattle.cd_foot.specs.Overlaps.{FirstOverlap}
-use Rattle.cd_cover.specs.Checks.{FirstFlaw}
 use Rattle.cd_cover.specs.Laws.{FirstFlawIsOne}
-use Rattle.cd_script.specs.Acceptance.{FirstFault}
 use Rattle.cd_script.specs.Laws.{FirstFaultIsOne}
 use Rattle.cd_script.specs.Laws.{ScriptIsOne as AcceptedIsOne}
-use Rattle.cd_check.specs.Checking.{FirstRefusal, Passes}
+use Rattle.cd_check.specs.Checking.{Question, overlap, flaw, fault, Answers, FirstRefusalOf, Passes}
 
 -- a question has one answer
 abbrev HasOne : (Option Refusal → Type 0) → Type 0
@@ -32,12 +29,21 @@ then_is_one First Second one two (Some r) (Some s) (inl p) (inr q) = absurd (som
 then_is_one First Second one two (Some r) (Some s) (inr p) (inl q) = absurd (some_is_none s (one (Some s) None q p.0))
 then_is_one First Second one two (Some r) (Some s) (inr p) (inr q) = two (Some r) (Some s) p.1 q.1
 
--- two first refusals of a document are the same
-pub first_refusal_is_one : FirstOverlapIsOne → FirstFlawIsOne → FirstFaultIsOne → (document : Document) → IsTree document.tree → HasOne (FirstRefusal document)
-first_refusal_is_one overlap flaw fault document is =
-    let domains = document.tree.domains in
-    then_is_one (FirstOverlap domains) (Then (FirstFlaw domains) (FirstFault domains document.faults)) (overlap domains)
-    (then_is_one (FirstFlaw domains) (FirstFault domains document.faults) (flaw domains) (fault document.tree is document.faults))
+first_is_one : {A : Type 0} (Says : A → Option Refusal → Type 0) → ((x : A) → HasOne (Says x)) → (xs : List A) → HasOne (FirstOf Says xs)
+first_is_one Says each [] = λ one other p q. p ∙ sym q
+first_is_one Says each (x ∷ xs) = then_is_one (Says x) (FirstOf Says xs) (each x) (first_is_one Says each xs)
+
+answer_is_one : FirstOverlapIsOne → FirstFlawIsOne → FirstFaultIsOne → (document : Document) → IsTree document.tree → (question : Question)
+    → HasOne (Answers document question)
+answer_is_one one_overlap one_flaw one_fault document is overlap = one_overlap document.tree.domains
+answer_is_one one_overlap one_flaw one_fault document is flaw = one_flaw document.tree.domains
+answer_is_one one_overlap one_flaw one_fault document is fault = one_fault document.tree is document.faults
+
+-- two first refusals of a document, by whichever questions, are the same
+pub first_refusal_is_one : FirstOverlapIsOne → FirstFlawIsOne → FirstFaultIsOne → (questions : List Question) (document : Document)
+    → IsTree document.tree → HasOne (FirstRefusalOf questions document)
+first_refusal_is_one one_overlap one_flaw one_fault questions document is =
+    first_is_one (Answers document) (answer_is_one one_overlap one_flaw one_fault document is) questions
 
 -- two scripts with which a document passes are the same
 pub passing_script_is_one : AcceptedIsOne → (document : Document) → IsTree document.tree → (one other : List Fault)

@@ -3,14 +3,14 @@ use Rattle.std.specs.Prelude.{◌≡◌, ◌↔◌, ℕ, List, Option}
 use Rattle.cd_tree.specs.declared.document.Document.{Document}
 use Rattle.cd_tree.specs.declared.document.Fault.{Fault}
 use Rattle.cd_tree.specs.declared.refusal.Refusal.{Refusal}
-use Rattle.cd_tree.specs.Outlines.{IsTree}
-use Rattle.cd_check.specs.Checking.{FirstRefusal, Passes}
+use Rattle.cd_tree.specs.TreeModel.{IsTree}
+use Rattle.cd_check.specs.Checking.{Question, FirstRefusalOf, FirstRefusal, Passes}
 
--- two first refusals of a document, or a refusal and none, are the same
+-- two first refusals of a document by the same questions, or a refusal and none, are the same
 abbrev pub FirstRefusalIsOne : Type 0
 FirstRefusalIsOne =
-    (document : Document) → IsTree document.tree → (one other : Option Refusal)
-    → FirstRefusal document one → FirstRefusal document other → one ≡ other
+    (questions : List Question) (document : Document) → IsTree document.tree → (one other : Option Refusal)
+    → FirstRefusalOf questions document one → FirstRefusalOf questions document other → one ≡ other
 
 -- two scripts with which a document passes are the same
 abbrev pub ScriptIsOne : Type 0

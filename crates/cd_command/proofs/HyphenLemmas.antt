@@ -3,7 +3,7 @@ use Rattle.std.proofs.Common.{◌≡◌, ◌∙◌, ◌==◌, ◌||◌, ◌⊎�
 use Rattle.std.specs.Prelude.{⊤, option_map, option_and_then}
 use Rattle.cd_command.specs.declared.command.Command.{Command}
 use Rattle.cd_command.specs.declared.command.Command.TheVariants.{Check, Read, Lift}
-use Rattle.cd_command.specs.CommandLine.{Bytes, Kind, dashes, named, hyphened, plain, kind_of, behind_two, begins_with_hyphen, Name, for_workers, for_size, for_record, for_nothing, name_of, Part, action, workers, size, with_record, Seen, nothing_seen, put, put_first, Wanted, anything, value_for, all_positional, by_name, by_kind, by_value, read_on, given, given_with, Action, to_check, to_read, to_lift, to_run, to_make, unknown, action_of, run_of, make_of, number_or, command_for, command_by, command_in}
+use Rattle.cd_command.specs.CommandLine.{Bytes, Kind, dashes, named, hyphened, plain, kind_of, behind_two, begins_with_hyphen, Choice, for_workers, for_size, for_record, choice_of, Part, action, workers, size, with_record, Seen, nothing_seen, put, put_first, Wanted, anything, value_for, all_positional, by_name, by_kind, by_value, read_on, given, given_with, Action, to_check, to_read, to_lift, to_run, to_make, unknown, action_of, run_of, make_of, number_or, command_for, command_by, command_in}
 use Rattle.cd_command.specs.Parses.{parse_on, parse_value, parsed_in}
 use Rattle.cd_command.proofs.WordLemmas.{by_test}
 use Rattle.cd_command.proofs.StepLemmas.{TakesValue}
@@ -58,19 +58,19 @@ positional_spoilt (word ∷ words) seen h =
 abbrev Spoils : (Wanted → Seen → Option Seen) → Type 0
 Spoils next = (wanted : Wanted) (seen : Seen) → IsSpoilt seen → SpoiltOrNone (next wanted seen)
 
-name_spoilt : (n : Name) (v : Option Bytes) (seen : Seen) (next : Wanted → Seen → Option Seen) → Spoils next → IsSpoilt seen → SpoiltOrNone (by_name n v seen next)
-name_spoilt for_workers None seen next f h = f (value_for workers) seen h
-name_spoilt for_workers (Some v) seen next f h = then_spoilt (next anything) (put workers v seen) (f anything) (put_spoilt workers v seen h)
-name_spoilt for_size None seen next f h = f (value_for size) seen h
-name_spoilt for_size (Some v) seen next f h = then_spoilt (next anything) (put size v seen) (f anything) (put_spoilt size v seen h)
-name_spoilt for_record None seen next f h = then_spoilt (next anything) (put with_record [] seen) (f anything) (put_spoilt with_record [] seen h)
-name_spoilt for_record (Some v) seen next f h = tt
-name_spoilt for_nothing v seen next f h = tt
+name_spoilt : (n : Option Choice) (v : Option Bytes) (seen : Seen) (next : Wanted → Seen → Option Seen) → Spoils next → IsSpoilt seen → SpoiltOrNone (by_name n v seen next)
+name_spoilt (Some for_workers) None seen next f h = f (value_for workers) seen h
+name_spoilt (Some for_workers) (Some v) seen next f h = then_spoilt (next anything) (put workers v seen) (f anything) (put_spoilt workers v seen h)
+name_spoilt (Some for_size) None seen next f h = f (value_for size) seen h
+name_spoilt (Some for_size) (Some v) seen next f h = then_spoilt (next anything) (put size v seen) (f anything) (put_spoilt size v seen h)
+name_spoilt (Some for_record) None seen next f h = then_spoilt (next anything) (put with_record [] seen) (f anything) (put_spoilt with_record [] seen h)
+name_spoilt (Some for_record) (Some v) seen next f h = tt
+name_spoilt None v seen next f h = tt
 
 kind_spoilt : (k : Kind) (word : Bytes) (words : List Bytes) (seen : Seen) → Spoils (parse_on words) → IsSpoilt seen
     → SpoiltOrNone (by_kind k word seen (parse_on words) (all_positional words))
 kind_spoilt dashes word words seen f h = positional_spoilt words seen h
-kind_spoilt (named name v) word words seen f h = name_spoilt (name_of name) v seen (parse_on words) f h
+kind_spoilt (named name v) word words seen f h = name_spoilt (choice_of name) v seen (parse_on words) f h
 kind_spoilt hyphened word words seen f h = tt
 kind_spoilt plain word words seen f h = then_spoilt (parse_on words anything) (put action word seen) (f anything) (put_spoilt action word seen h)
 
@@ -104,19 +104,19 @@ then_close : (f g : Wanted → Seen → Option Seen) (o : Option Seen) → AreCl
 then_close f g None h = inl refl
 then_close f g (Some seen) h = h anything seen tt
 
-name_close : (n : Name) (v : Option Bytes) (seen : Seen) (f g : Wanted → Seen → Option Seen) → AreClose f g → Close (by_name n v seen f) (by_name n v seen g)
-name_close for_workers None seen f g h = h (value_for workers) seen tt
-name_close for_workers (Some v) seen f g h = then_close f g (put workers v seen) h
-name_close for_size None seen f g h = h (value_for size) seen tt
-name_close for_size (Some v) seen f g h = then_close f g (put size v seen) h
-name_close for_record None seen f g h = then_close f g (put with_record [] seen) h
-name_close for_record (Some v) seen f g h = inl refl
-name_close for_nothing v seen f g h = inl refl
+name_close : (n : Option Choice) (v : Option Bytes) (seen : Seen) (f g : Wanted → Seen → Option Seen) → AreClose f g → Close (by_name n v seen f) (by_name n v seen g)
+name_close (Some for_workers) None seen f g h = h (value_for workers) seen tt
+name_close (Some for_workers) (Some v) seen f g h = then_close f g (put workers v seen) h
+name_close (Some for_size) None seen f g h = h (value_for size) seen tt
+name_close (Some for_size) (Some v) seen f g h = then_close f g (put size v seen) h
+name_close (Some for_record) None seen f g h = then_close f g (put with_record [] seen) h
+name_close (Some for_record) (Some v) seen f g h = inl refl
+name_close None v seen f g h = inl refl
 
 kind_close : (k : Kind) (word : Bytes) (words : List Bytes) (seen : Seen) → AreClose (read_on words) (parse_on words)
     → Close (by_kind k word seen (read_on words) (all_positional words)) (by_kind k word seen (parse_on words) (all_positional words))
 kind_close dashes word words seen h = inl refl
-kind_close (named name v) word words seen h = name_close (name_of name) v seen (read_on words) (parse_on words) h
+kind_close (named name v) word words seen h = name_close (choice_of name) v seen (read_on words) (parse_on words) h
 kind_close hyphened word words seen h = inl refl
 kind_close plain word words seen h = then_close (read_on words) (parse_on words) (put action word seen) h
 
@@ -162,34 +162,40 @@ close (word ∷ words) (value_for p) seen fine = value_close p fine words seen (
 
 -- ---- the command
 
-or_true : (b : Bool) → (b || true) ≡ true
-or_true true = refl
-or_true false = refl
+-- the command of an action by what was given
+abbrev by_given : Action → Bytes → Option Bytes → Option Bytes → Bool → Option Command
+by_given to word w s r = command_for to (record { word = word; workers = w; size = s; has_record = r })
 
-both_none : {X : Type 0} (b : Bool) → ◌≡◌ {A = Option X} (cond b None None) None
-both_none true = refl
-both_none false = refl
+-- there is none where a hyphen is the number of workers
+no_workers : (to : Action) (word : Bytes) (s : Option Bytes) (r : Bool) → by_given to word (Some hyphen) s r ≡ None
+no_workers to_check word s r = refl
+no_workers to_read word s r = refl
+no_workers to_lift word s r = refl
+no_workers to_run word None r = refl
+no_workers to_run word (Some text) r = refl
+no_workers to_make word s r = refl
+no_workers unknown word s r = refl
 
-alone_none : (w s : Option Bytes) (r : Bool) (command : Command) → (w ≡ Some hyphen) ⊎ (s ≡ Some hyphen)
-    → cond (is_some w || (is_some s || r)) None (Some command) ≡ None
-alone_none w s r command (inl e) = ap (λ o. cond (is_some o || (is_some s || r)) None (Some command)) e
-alone_none w s r command (inr e) =
-    ap (λ o. cond (is_some w || (is_some o || r)) None (Some command)) e ∙ ap (λ b. cond b None (Some command)) (or_true (is_some w))
+-- nor where it is the size
+no_size : (to : Action) (word : Bytes) (w : Option Bytes) (r : Bool) → by_given to word w (Some hyphen) r ≡ None
+no_size to_check word None r = refl
+no_size to_check word (Some text) r = refl
+no_size to_read word None r = refl
+no_size to_read word (Some text) r = refl
+no_size to_lift word None r = refl
+no_size to_lift word (Some text) r = refl
+no_size to_run word w r = refl
+no_size to_make word None true = refl
+no_size to_make word None false = refl
+no_size to_make word (Some text) r = refl
+no_size unknown word None r = refl
+no_size unknown word (Some text) r = refl
 
-no_command : (a : Action) (word : Bytes) (seen : Seen) → IsSpoilt seen → command_for a (given_with seen word) ≡ None
-no_command to_check word seen h = alone_none (seen workers) (seen size) (is_some (seen with_record)) Check h
-no_command to_read word seen h = alone_none (seen workers) (seen size) (is_some (seen with_record)) Read h
-no_command to_lift word seen h = alone_none (seen workers) (seen size) (is_some (seen with_record)) Lift h
-no_command to_run word seen (inl e) =
-    ap (λ o. cond (is_some (seen size)) None (option_map (run_of (is_some (seen with_record))) (number_or 2 64 o))) e ∙ both_none (is_some (seen size))
-no_command to_run word seen (inr e) =
-    ap (λ o. cond (is_some o) None (option_map (run_of (is_some (seen with_record))) (number_or 2 64 (seen workers)))) e
-no_command to_make word seen (inl e) =
-    ap (λ o. cond (is_some o || is_some (seen with_record)) None (option_map make_of (number_or 4 14 (seen size)))) e
-no_command to_make word seen (inr e) =
-    ap (λ o. cond (is_some (seen workers) || is_some (seen with_record)) None (option_map make_of (number_or 4 14 o))) e
-    ∙ both_none (is_some (seen workers) || is_some (seen with_record))
-no_command unknown word seen h = refl
+no_command : (to : Action) (word : Bytes) (seen : Seen) → IsSpoilt seen → command_for to (given_with seen word) ≡ None
+no_command to word seen (inl e) =
+    ap (λ o. by_given to word o (seen size) (is_some (seen with_record))) e ∙ no_workers to word (seen size) (is_some (seen with_record))
+no_command to word seen (inr e) =
+    ap (λ o. by_given to word (seen workers) o (is_some (seen with_record))) e ∙ no_size to word (seen workers) (is_some (seen with_record))
 
 abbrev command_from : Option Seen → Option Command
 command_from o = option_and_then command_by (option_and_then given o)

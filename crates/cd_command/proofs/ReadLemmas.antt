@@ -4,7 +4,7 @@ use Rattle.std.specs.Prelude.{option_and_then}
 use Rattle.clap.specs.Walk.{Row, Text, Waiting, idle, option, value, Walk, after_step, used, walked}
 use Rattle.clap.specs.Kinds.{Kinds, or_else}
 use Rattle.clap.specs.Faults.{step_fault, turn_fault, use_fault, walk_fault}
-use Rattle.cd_command.specs.CommandLine.{Bytes, Kind, dashes, named, hyphened, plain, kind_of, Name, for_workers, for_size, for_record, for_nothing, name_of, Part, action, workers, size, with_record, Seen, put, put_first, anything, value_for, all_positional, by_name, by_kind}
+use Rattle.cd_command.specs.CommandLine.{Bytes, Kind, dashes, named, hyphened, plain, kind_of, Choice, for_workers, for_size, for_record, choice_of, Part, action, workers, size, with_record, Seen, put, put_first, anything, value_for, all_positional, by_name, by_kind}
 use Rattle.cd_command.specs.Parses.{AreTexts, parse_on, parse_value}
 use Rattle.cd_command.proofs.WordLemmas.{IsKind, sort}
 use Rattle.cd_command.proofs.RowLemmas.{Agreed, IsFault, Shows, fault_left, id_of, or_none, past, rule, rule_named, rules, top, used_once, values_of}
@@ -128,27 +128,27 @@ module _ (word : Text) (words : List Bytes) (rest : Says words) (rows : List Row
   here = state (held rows pending) idle met false
 
   -- an option or a flag
-  free_name : (n : Name) (v : Option Text) (seen : Seen) → Holds (held rows pending) (Some seen) → Placed met (Some seen)
+  free_name : (n : Option Choice) (v : Option Text) (seen : Seen) → Holds (held rows pending) (Some seen) → Placed met (Some seen)
       → turn_fault top [] here word ≡ name_turn (held rows pending) idle met word (rule_named n) v
       → walked rules [] here word ≡ name_walk (held rows pending) idle met word (rule_named n) v
       → Agrees here (word ∷ words) (by_name n v seen (parse_on words))
-  free_name for_workers None seen h at turn walk =
+  free_name (Some for_workers) None seen h at turn walk =
       go_on here (state (wanting (rows_at (held rows pending)) workers) (option (id_of workers)) met false) word words (parse_on words (value_for workers) seen)
       walk (turn ∙ (or_none (settle (held rows pending)) ∙ h.0)) (rest.waits workers (rows_at (held rows pending)) met seen tt h.1 at)
-  free_name for_size None seen h at turn walk =
+  free_name (Some for_size) None seen h at turn walk =
       go_on here (state (wanting (rows_at (held rows pending)) size) (option (id_of size)) met false) word words (parse_on words (value_for size) seen)
       walk (turn ∙ (or_none (settle (held rows pending)) ∙ h.0)) (rest.waits size (rows_at (held rows pending)) met seen tt h.1 at)
-  free_name for_workers (Some v) seen h at turn walk =
+  free_name (Some for_workers) (Some v) seen h at turn walk =
       at_once here (used (rule workers) (v ∷ []) (rows_at (held rows pending))) met _ word words (put workers v seen) rest
       (then_used workers v (settle (held rows pending)) (rows_at (held rows pending)) seen h.0 h.1) (placed_other workers met v seen tt at) turn walk
-  free_name for_size (Some v) seen h at turn walk =
+  free_name (Some for_size) (Some v) seen h at turn walk =
       at_once here (used (rule size) (v ∷ []) (rows_at (held rows pending))) met _ word words (put size v seen) rest
       (then_used size v (settle (held rows pending)) (rows_at (held rows pending)) seen h.0 h.1) (placed_other size met v seen tt at) turn walk
-  free_name for_record None seen h at turn walk =
+  free_name (Some for_record) None seen h at turn walk =
       at_once here (used (rule with_record) [] (rows_at (held rows pending))) met _ word words (put with_record [] seen) rest
       (then_used with_record [] (settle (held rows pending)) (rows_at (held rows pending)) seen h.0 h.1) (placed_flag met [] seen at) turn walk
-  free_name for_record (Some v) seen h at turn walk = stop_here here word words (subst IsFault (sym turn) tt)
-  free_name for_nothing v seen h at turn walk = stop_here here word words (subst IsFault (sym turn) tt)
+  free_name (Some for_record) (Some v) seen h at turn walk = stop_here here word words (subst IsFault (sym turn) tt)
+  free_name None v seen h at turn walk = stop_here here word words (subst IsFault (sym turn) tt)
 
   free_kind : (k : Kind) → IsKind word k → (o : Option Seen) → Holds (held rows pending) o → Placed met o
       → Agrees here (word ∷ words) (option_and_then (λ seen. by_kind k word seen (parse_on words) (all_positional words)) o)
@@ -160,9 +160,9 @@ module _ (word : Text) (words : List Bytes) (rest : Says words) (rows : List Row
       (dashes_turn (held rows pending) idle met word refl k) (rest.trails rows pending idle met (Some seen) h at)
   free_kind (named name v) k None h at =
       stop_here here word words (subst IsFault (sym (named_turn (held rows pending) idle met word name v refl k))
-      (fault_left _ _ (name_doomed (name_of name) v (held rows pending) h)))
+      (fault_left _ _ (name_doomed (choice_of name) v (held rows pending) h)))
   free_kind (named name v) k (Some seen) h at =
-      free_name (name_of name) v seen h at (named_turn (held rows pending) idle met word name v refl k) (named_walk (held rows pending) idle met word name v refl k)
+      free_name (choice_of name) v seen h at (named_turn (held rows pending) idle met word name v refl k) (named_walk (held rows pending) idle met word name v refl k)
   free_kind hyphened k None h at = stop_here here word words (hyphened_turn rows pending idle met word refl k)
   free_kind hyphened k (Some seen) h at = stop_here here word words (hyphened_turn rows pending idle met word refl k)
   free_kind plain k o h at =
@@ -183,7 +183,7 @@ module _ (word : Text) (words : List Bytes) (rest : Says words) (p : Part) (rows
       (rest.trails rows (Some (id_of p, [])) (option (id_of p)) met None (wanting_fault p rows t) tt)
   waits_kind (named name v) k seen shows at =
       stop_here wants word words (subst IsFault (sym (named_turn (wanting rows p) (option (id_of p)) met word name v refl k))
-      (fault_left _ _ (name_doomed (name_of name) v (wanting rows p) (wanting_fault p rows t))))
+      (fault_left _ _ (name_doomed (choice_of name) v (wanting rows p) (wanting_fault p rows t))))
   waits_kind hyphened k seen shows at = stop_here wants word words (hyphened_turn rows (Some (id_of p, [])) (option (id_of p)) met word refl k)
   waits_kind plain k seen shows at =
       let h = held_once p rows word seen t shows in

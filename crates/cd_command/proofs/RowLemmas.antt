@@ -12,7 +12,7 @@ use Rattle.clap.specs.declared.parser.matches.ValueSource.{ValueSource}
 use Rattle.clap.specs.declared.parser.matches.ValueSource.TheVariants.{CommandLine}
 use Rattle.clap.specs.declared.builder.value_parser.Reading.{Reading}
 use Rattle.clap.specs.declared.builder.value_parser.Reading.TheVariants.{AsWritten}
-use Rattle.cd_command.specs.CommandLine.{Bytes, Name, for_workers, for_size, for_record, for_nothing, name_of, Part, action, workers, size, with_record, is_same, Seen, put, put_first}
+use Rattle.cd_command.specs.CommandLine.{Bytes, Choice, for_workers, for_size, for_record, choice_of, Part, action, workers, size, with_record, is_same, Seen, put, put_first}
 use Rattle.cd_command.specs.Line.{line, workers_rule, size_rule, record_rule, action_rule}
 use Rattle.cd_command.proofs.WordLemmas.{by_test}
 
@@ -39,13 +39,13 @@ id_of size = codes "size"
 id_of with_record = codes "record"
 
 -- what a name stands for, as a rule
-abbrev pub rule_named : Name → Option Rule
-rule_named for_workers = Some (rule workers)
-rule_named for_size = Some (rule size)
-rule_named for_record = Some (rule with_record)
-rule_named for_nothing = None
+abbrev pub rule_named : Option Choice → Option Rule
+rule_named (Some for_workers) = Some (rule workers)
+rule_named (Some for_size) = Some (rule size)
+rule_named (Some for_record) = Some (rule with_record)
+rule_named None = None
 
-pub named_rule : (name : Text) → arg_by_long rules name ≡ rule_named (name_of name)
+pub named_rule : (name : Text) → arg_by_long rules name ≡ rule_named (choice_of name)
 named_rule name = by_test (bytes_eq (codes "workers") name) (λ e. rw e refl) (λ e.
     by_test (bytes_eq (codes "size") name) (λ f. rw (e, f) refl) (λ f.
     by_test (bytes_eq (codes "record") name) (λ g. rw (e, f, g) refl) (λ g. rw (e, f, g) refl)))

@@ -5,7 +5,7 @@ use Rattle.std.specs.List.{fold}
 use Rattle.clap.specs.Walk.{Held, Row, Rule, Step, Text, Waiting, idle, option, value, Walk, after_flag, after_step, arg_by_long, is_pending, long_met, settled, subcommand_met, walked}
 use Rattle.clap.specs.Kinds.{Kinds, or_else}
 use Rattle.clap.specs.Faults.{flags_fault, long_fault, settle_fault, step_fault, turn_fault, use_fault, walk_fault}
-use Rattle.cd_command.specs.CommandLine.{named, hyphened, plain, Name, for_workers, for_size, for_record, for_nothing, name_of, Part, action, workers, size, with_record, Seen, put}
+use Rattle.cd_command.specs.CommandLine.{named, hyphened, plain, Choice, for_workers, for_size, for_record, choice_of, Part, action, workers, size, with_record, Seen, put}
 use Rattle.cd_command.proofs.WordLemmas.{IsKind, is_dashes}
 use Rattle.cd_command.proofs.RowLemmas.{Agreed, IsFault, Shows, fault_left, id_of, named_rule, rule, rule_named, rules, top, used_once}
 
@@ -95,26 +95,26 @@ abbrev pub name_walk : Held → Waiting → Bool → Text → Option Rule → Op
 name_walk h waiting met word r v = after_step rules word (state h waiting met false) (name_met h waiting word r v).0 (name_met h waiting word r v).1
 
 module _ (h : Held) (waiting : Waiting) (met : Bool) (word name : Text) (v : Option Text) (free : subcommand_met [] waiting word ≡ None) (k : IsKind word (named name v)) where
-  pub named_turn : turn_fault top [] (state h waiting met false) word ≡ name_turn h waiting met word (rule_named (name_of name)) v
+  pub named_turn : turn_fault top [] (state h waiting met false) word ≡ name_turn h waiting met word (rule_named (choice_of name)) v
   named_turn =
       let by_rule : turn_fault top [] (state h waiting met false) word ≡ name_turn h waiting met word (arg_by_long rules name) v = rw (free, k.0, k.1) refl in
       by_rule ∙ ap (λ r. name_turn h waiting met word r v) (named_rule name)
 
-  pub named_walk : walked rules [] (state h waiting met false) word ≡ name_walk h waiting met word (rule_named (name_of name)) v
+  pub named_walk : walked rules [] (state h waiting met false) word ≡ name_walk h waiting met word (rule_named (choice_of name)) v
   unfolding walked
   named_walk =
       let by_rule : walked rules [] (state h waiting met false) word ≡ name_walk h waiting met word (arg_by_long rules name) v = rw (free, k.0, k.1) refl in
       by_rule ∙ ap (λ r. name_walk h waiting met word r v) (named_rule name)
 
 -- where what waits is a fault, a name is one
-pub name_doomed : (n : Name) (v : Option Text) (h : Held) → IsFault (settle h) → IsFault (long_fault rules false (rule_named n) v h)
-name_doomed for_workers None h e = e
-name_doomed for_workers (Some v) h e = fault_left (settle h) (use_fault false (rule workers) (v ∷ []) (rows_at h)) e
-name_doomed for_size None h e = e
-name_doomed for_size (Some v) h e = fault_left (settle h) (use_fault false (rule size) (v ∷ []) (rows_at h)) e
-name_doomed for_record None h e = fault_left (settle h) (use_fault false (rule with_record) [] (rows_at h)) e
-name_doomed for_record (Some v) h e = tt
-name_doomed for_nothing v h e = tt
+pub name_doomed : (n : Option Choice) (v : Option Text) (h : Held) → IsFault (settle h) → IsFault (long_fault rules false (rule_named n) v h)
+name_doomed (Some for_workers) None h e = e
+name_doomed (Some for_workers) (Some v) h e = fault_left (settle h) (use_fault false (rule workers) (v ∷ []) (rows_at h)) e
+name_doomed (Some for_size) None h e = e
+name_doomed (Some for_size) (Some v) h e = fault_left (settle h) (use_fault false (rule size) (v ∷ []) (rows_at h)) e
+name_doomed (Some for_record) None h e = fault_left (settle h) (use_fault false (rule with_record) [] (rows_at h)) e
+name_doomed (Some for_record) (Some v) h e = tt
+name_doomed None v h e = tt
 
 -- a plain word where nothing waits
 pub plain_turn : (h : Held) (met : Bool) (word : Text) → IsKind word plain → turn_fault top [] (state h idle met false) word ≡ step_fault top (place met) h value

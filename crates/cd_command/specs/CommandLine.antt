@@ -1,8 +1,9 @@
 -- The command that the words of a command line give.
-use Rattle.std.specs.Prelude.{ℕ, ◌+◌, ◌*◌, ◌-◌, ◌==◌, ◌&&◌, ◌||◌, ◌≤◌, Bool, true, false, ⊤, List, [], ◌∷◌, length, codes, Option, Some, None, is_some, if◌then◌else◌, nat_le, option_map, option_and_then}
+use Rattle.std.specs.Prelude.{ℕ, ◌+◌, ◌*◌, ◌-◌, ◌==◌, ◌&&◌, ◌||◌, ◌≤◌, Bool, true, false, ⊤, List, [], ◌∷◌, length, codes, Option, Some, None, is_some, not, if◌then◌else◌, nat_le, option_map, option_and_then}
 use Rattle.std.specs.List.{list_all, list_any, before_first, after_first}
 use Rattle.std.specs.Str.{bytes_eq}
 use Rattle.cd_command.specs.declared.command.Command.{Command}
+use Rattle.cd_command.specs.declared.value.Values.{Values}
 use Rattle.cd_command.specs.declared.command.Command.TheVariants.{Check, Read, Lift, Run, Make}
 
 -- the bytes of a word
@@ -40,19 +41,23 @@ abbrev pub begins_with_hyphen : Bytes → Bool
 begins_with_hyphen [] = false
 begins_with_hyphen (b ∷ bytes) = b == 45
 
--- what a name stands for; a name is not shortened
-pub data Name : Type 0 where
-  for_workers : Name
-  for_size : Name
-  for_record : Name
-  for_nothing : Name
+-- ---- actions and options
 
-abbrev pub name_of : Bytes → Name
-name_of name = if bytes_eq (codes "workers") name then for_workers
-    else (if bytes_eq (codes "size") name then for_size
-    else (if bytes_eq (codes "record") name then for_record else for_nothing))
+-- the five actions
+pub data Action : Type 0 where
+  to_check : Action
+  to_read : Action
+  to_lift : Action
+  to_run : Action
+  to_make : Action
+  unknown : Action
 
--- ---- what the words give
+abbrev pub action_of : Bytes → Action
+action_of word = if bytes_eq word (codes "check") then to_check
+    else (if bytes_eq word (codes "read") then to_read
+    else (if bytes_eq word (codes "lift") then to_lift
+    else (if bytes_eq word (codes "run") then to_run
+    else (if bytes_eq word (codes "make") then to_make else unknown))))
 
 -- the parts of a command line: the positional word, the values of the two options, and the flag
 pub data Part : Type 0 where
@@ -67,6 +72,53 @@ is_same workers workers = true
 is_same size size = true
 is_same with_record with_record = true
 is_same _ _ = false
+
+-- an option or a flag
+pub data Choice : Type 0 where
+  for_workers : Choice
+  for_size : Choice
+  for_record : Choice
+
+-- what an option is: its part and its name; the numbers that its value may be, where it has a value; the actions with which
+-- it stands
+pub record Row : Type 0 where
+  pub part : Part
+  pub name : Bytes
+  pub values : Option Values
+  pub stands_with : Action → Bool
+
+abbrev pub with_run : Action → Bool
+with_run to_run = true
+with_run _ = false
+
+abbrev pub with_make : Action → Bool
+with_make to_make = true
+with_make _ = false
+
+abbrev pub workers_values : Values
+workers_values = record { least = 1; most = 64; usual = 2 }
+
+abbrev pub size_values : Values
+size_values = record { least = 1; most = 14; usual = 4 }
+
+-- the table of options
+abbrev pub row_of : Choice → Row
+row_of for_workers = record { part = workers; name = codes "workers"; values = Some workers_values; stands_with = with_run }
+row_of for_size = record { part = size; name = codes "size"; values = Some size_values; stands_with = with_make }
+row_of for_record = record { part = with_record; name = codes "record"; values = None; stands_with = with_run }
+
+abbrev pub choices : List Choice
+choices = for_workers ∷ for_size ∷ for_record ∷ []
+
+-- the first of some options that has a name; a name is not shortened
+abbrev pub named_in : List Choice → Bytes → Option Choice
+named_in [] name = None
+named_in (choice ∷ rest) name = if bytes_eq (row_of choice).name name then Some choice else named_in rest name
+
+abbrev pub choice_of : Bytes → Option Choice
+choice_of name = named_in choices name
+
+-- ---- what the words give
 
 -- each part that was given, with its text (of the flag, nothing)
 abbrev pub Seen : Type 0
@@ -93,21 +145,24 @@ abbrev pub all_positional : List Bytes → Seen → Option Seen
 all_positional [] seen = Some seen
 all_positional (word ∷ words) seen = option_and_then (all_positional words) (put action word seen)
 
--- `--NAME` or `--NAME=VALUE`, where `next` is what the words behind it give
-abbrev pub by_name : Name → Option Bytes → Seen → (Wanted → Seen → Option Seen) → Option Seen
-by_name for_workers None seen next = next (value_for workers) seen
-by_name for_workers (Some value) seen next = option_and_then (next anything) (put workers value seen)
-by_name for_size None seen next = next (value_for size) seen
-by_name for_size (Some value) seen next = option_and_then (next anything) (put size value seen)
-by_name for_record None seen next = option_and_then (next anything) (put with_record [] seen)
-by_name for_record (Some value) seen next = None
-by_name for_nothing value seen next = None
+-- an option with a value, which stands behind `=` or is the next word; or a flag, which has none; `next` is what the words
+-- behind it give
+abbrev pub by_row : Part → Option Values → Option Bytes → Seen → (Wanted → Seen → Option Seen) → Option Seen
+by_row part (Some values) None seen next = next (value_for part) seen
+by_row part (Some values) (Some value) seen next = option_and_then (next anything) (put part value seen)
+by_row part None None seen next = option_and_then (next anything) (put part [] seen)
+by_row part None (Some value) seen next = None
+
+-- `--NAME` or `--NAME=VALUE`
+abbrev pub by_name : Option Choice → Option Bytes → Seen → (Wanted → Seen → Option Seen) → Option Seen
+by_name None value seen next = None
+by_name (Some choice) value seen next = by_row (row_of choice).part (row_of choice).values value seen next
 
 -- a word where anything may come, by what it is; `next` is what the words behind it give, and `ended` what they give as
 -- positional words
 abbrev pub by_kind : Kind → Bytes → Seen → (Wanted → Seen → Option Seen) → (Seen → Option Seen) → Option Seen
 by_kind dashes word seen next ended = ended seen
-by_kind (named name value) word seen next ended = by_name (name_of name) value seen next
+by_kind (named name value) word seen next ended = by_name (choice_of name) value seen next
 by_kind hyphened word seen next ended = None
 by_kind plain word seen next ended = option_and_then (next anything) (put action word seen)
 
@@ -166,38 +221,32 @@ number_behind n (b ∷ bytes) = number_behind (10 * n + (b - 48)) bytes
 abbrev pub is_value : Bytes → Bool
 is_value text = nat_le 1 (length text) && (nat_le (length text) 3 && list_all is_digit text)
 
--- a number from 1 to the most
-abbrev pub within : ℕ → ℕ → Option ℕ
-within most n = if nat_le 1 n && nat_le n most then Some n else None
+-- a number among the values
+abbrev pub within : Values → ℕ → Option ℕ
+within values n = if nat_le values.least n && nat_le n values.most then Some n else None
 
 -- the number that a value stands for
-abbrev pub number_in : ℕ → Bytes → Option ℕ
-number_in most text = if is_value text then within most (number_behind 0 text) else None
+abbrev pub number_in : Values → Bytes → Option ℕ
+number_in values text = if is_value text then within values (number_behind 0 text) else None
 
 -- the number of an option, and without it the usual one
-abbrev pub number_or : ℕ → ℕ → Option Bytes → Option ℕ
-number_or usual most None = Some usual
-number_or usual most (Some text) = number_in most text
+abbrev pub number_or : Values → Option Bytes → Option ℕ
+number_or values None = Some values.usual
+number_or values (Some text) = number_in values text
 
--- the five actions
-pub data Action : Type 0 where
-  to_check : Action
-  to_read : Action
-  to_lift : Action
-  to_run : Action
-  to_make : Action
-  unknown : Action
+-- whether an option was given
+abbrev pub was_given : Choice → Given → Bool
+was_given for_workers g = is_some g.workers
+was_given for_size g = is_some g.size
+was_given for_record g = g.has_record
 
-abbrev pub action_of : Bytes → Action
-action_of word = if bytes_eq word (codes "check") then to_check
-    else (if bytes_eq word (codes "read") then to_read
-    else (if bytes_eq word (codes "lift") then to_lift
-    else (if bytes_eq word (codes "run") then to_run
-    else (if bytes_eq word (codes "make") then to_make else unknown))))
+-- each of these options stands with the action, or was not given
+abbrev pub each_fits : List Choice → Action → Given → Bool
+each_fits [] to g = true
+each_fits (choice ∷ rest) to g = ((row_of choice).stands_with to || not (was_given choice g)) && each_fits rest to g
 
--- a command with which no option and no flag stands
-abbrev pub alone : Given → Command → Option Command
-alone g command = if is_some g.workers || (is_some g.size || g.has_record) then None else Some command
+abbrev pub fits : Action → Given → Bool
+fits to g = each_fits choices to g
 
 abbrev pub run_of : Bool → ℕ → Command
 run_of record_wanted n = Run n record_wanted
@@ -205,21 +254,17 @@ run_of record_wanted n = Run n record_wanted
 abbrev pub make_of : ℕ → Command
 make_of n = Make n
 
--- the number of workers is 1 to 64, and without the option 2
-abbrev pub run_by : Given → Option Command
-run_by g = if is_some g.size then None else option_map (run_of g.has_record) (number_or 2 64 g.workers)
-
--- the size is 1 to 14, and without the option 4
-abbrev pub make_by : Given → Option Command
-make_by g = if is_some g.workers || g.has_record then None else option_map make_of (number_or 4 14 g.size)
+-- the command of an action, with the options that stand with it
+abbrev pub command_to : Action → Given → Option Command
+command_to to_check g = Some Check
+command_to to_read g = Some Read
+command_to to_lift g = Some Lift
+command_to to_run g = option_map (run_of g.has_record) (number_or workers_values g.workers)
+command_to to_make g = option_map make_of (number_or size_values g.size)
+command_to unknown g = None
 
 abbrev pub command_for : Action → Given → Option Command
-command_for to_check g = alone g Check
-command_for to_read g = alone g Read
-command_for to_lift g = alone g Lift
-command_for to_run g = run_by g
-command_for to_make g = make_by g
-command_for unknown g = None
+command_for to g = if fits to g then command_to to g else None
 
 -- the command of what was given
 abbrev pub command_by : Given → Option Command
@@ -229,10 +274,13 @@ command_by g = command_for (action_of g.word) g
 abbrev pub command_in : List Bytes → Option Command
 command_in words = option_and_then command_by (given_in words)
 
+abbrev pub IsAmong : Values → ℕ → Type 0
+IsAmong values n = (values.least ≤ n) × (n ≤ values.most)
+
 -- the numbers of a command lie in their ranges
 abbrev pub IsInRange : Command → Type 0
-IsInRange (Run n record_wanted) = (1 ≤ n) × (n ≤ 64)
-IsInRange (Make n) = (1 ≤ n) × (n ≤ 14)
+IsInRange (Run n record_wanted) = IsAmong workers_values n
+IsInRange (Make n) = IsAmong size_values n
 IsInRange _ = ⊤
 
 abbrev pub IsWithin : Option Command → Type 0

@@ -2,30 +2,38 @@ ghost use Rattle.std.specs.Prelude.{◌≡◌, true, option_map};
 ghost use Rattle.std.specs.List.{list_all};
 ghost use Rattle.cd_command.specs.CommandLine.{number_or, number_in, within, is_digit, is_value, number_behind};
 
-/// The number that the value of an option stands for, and the usual one where it was not given.
-pub(crate) fn number_or(usual: u32, most: u32, entry: Option<&str>) -> Option<u32>
-    ensures { result ≡ number_or usual most (option_map (λ s. s.now) entry.entry) }
+/// The numbers that the value of an option may be, and the one that stands where it was not given.
+#[derive(Clone, Copy)]
+pub(crate) struct Values {
+    pub(crate) least: u32,
+    pub(crate) most: u32,
+    pub(crate) usual: u32,
+}
+
+/// The number of an option.
+pub(crate) fn number_or(values: Values, entry: Option<&str>) -> Option<u32>
+    ensures { result ≡ number_or values (option_map (λ s. s.now) entry.entry) }
 {
     match entry {
-        Some(text) => number_in(most, text),
-        None => Some(usual),
+        Some(text) => number_in(values, text),
+        None => Some(values.usual),
     }
 }
 
-fn number_in(most: u32, text: &str) -> Option<u32>
-    ensures { result ≡ number_in most text.now }
+fn number_in(values: Values, text: &str) -> Option<u32>
+    ensures { result ≡ number_in values text.now }
 {
     let bytes = text.as_bytes();
     if !is_value(bytes) {
         return None;
     }
-    within(most, number_of(bytes))
+    within(values, number_of(bytes))
 }
 
-fn within(most: u32, number: u32) -> Option<u32>
-    ensures { result ≡ within most number }
+fn within(values: Values, number: u32) -> Option<u32>
+    ensures { result ≡ within values number }
 {
-    if 1 <= number && number <= most {
+    if values.least <= number && number <= values.most {
         Some(number)
     } else {
         None

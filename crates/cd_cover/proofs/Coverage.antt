@@ -9,7 +9,7 @@ use Rattle.cd_tree.specs.declared.domain.NodeId.{NodeId}
 use Rattle.cd_tree.specs.declared.domain.Entry.{Entry}
 use Rattle.cd_tree.specs.declared.domain.Domain.{Domain}
 use Rattle.cd_tree.specs.Operations.{IsFull}
-use Rattle.cd_tree.specs.Outlines.{Outline, IsTree}
+use Rattle.cd_tree.specs.TreeModel.{TreeModel, IsTree}
 use Rattle.cd_tree.specs.Domains.{Node, Body, node, number_of, body_by, node_of}
 use Rattle.cd_tree.specs.Meaning.{in_entries, body_reads, body_writes, node_reach, uncovered}
 use Rattle.cd_tree.specs.Laws.{NestedViewFollows}
@@ -53,7 +53,7 @@ left_out true r w = both_false (r || w)
     both_false false = refl
 left_out false r w = refl
 
-pub least_uncovered : (tree : Outline) → IsTree tree → NestedViewFollows → (feet : List Foot) → AreFeet tree.domains feet
+pub least_uncovered : (tree : TreeModel) → IsTree tree → NestedViewFollows → (feet : List Foot) → AreFeet tree.domains feet
     → (id : NodeId) (domain : Domain) → slice_get tree.domains id.0 ≡ Some domain
     → (entries : List Entry) → entries ≡ domain.entries → (ranges : List Range) → ranges ≡ map range_of entries
     → (set : List Range) → ((q : Place) → in_ranges set q ≡ in_ranges ranges q)

@@ -5,7 +5,7 @@ use Rattle.cd_base.specs.declared.place.Range.{Range}
 use Rattle.cd_base.specs.Words.{in_range, in_ranges}
 use Rattle.cd_base.specs.Places.{IsLeast}
 use Rattle.cd_tree.specs.declared.domain.NodeId.{NodeId}
-use Rattle.cd_tree.specs.Outlines.{Outline, IsTree}
+use Rattle.cd_tree.specs.TreeModel.{TreeModel, IsTree}
 use Rattle.cd_tree.specs.Domains.{node_of, number_of}
 use Rattle.cd_tree.specs.Meaning.{node_writes}
 use Rattle.cd_foot.specs.declared.footprints.Foot.{Foot}
@@ -19,7 +19,7 @@ and-swap true false = refl
 and-swap false true = refl
 and-swap false false = refl
 
-pub least_written : (tree : Outline) → IsTree tree → (feet : List Foot) → AreFeet tree.domains feet → (node : NodeId)
+pub least_written : (tree : TreeModel) → IsTree tree → (feet : List Foot) → AreFeet tree.domains feet → (node : NodeId)
     → node.0 < length tree.domains → (ranges : List Range) (r : Range) (x : Option Place)
     → IsSomeAnd (slice_get feet node.0) (λ foot. ranges ≡ foot.writes)
     → IsLeast (λ q. in_ranges ranges q && in_range r q) x

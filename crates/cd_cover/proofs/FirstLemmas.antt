@@ -6,7 +6,7 @@ use Rattle.cd_tree.specs.declared.domain.NodeId.{NodeId}
 use Rattle.cd_tree.specs.declared.domain.Entry.{Entry}
 use Rattle.cd_tree.specs.declared.domain.Domain.{Domain}
 use Rattle.cd_tree.specs.declared.refusal.Refusal.{Refusal}
-use Rattle.cd_tree.specs.Outlines.{Outline, IsTree}
+use Rattle.cd_tree.specs.TreeModel.{TreeModel, IsTree}
 use Rattle.cd_tree.specs.Domains.{Node, node, body_by, node_of}
 use Rattle.cd_tree.specs.Laws.{NestedViewFollows}
 use Rattle.cd_tree.specs.Refusals.{Then, FirstOf, numbered}
@@ -109,7 +109,7 @@ domains_end domains i all past left =
     none.first None refl
 
 -- a domain whose entries leave nothing out
-pub domain_clear : (tree : Outline) → IsTree tree → NestedViewFollows → (id : NodeId) (domain : Domain)
+pub domain_clear : (tree : TreeModel) → IsTree tree → NestedViewFollows → (id : NodeId) (domain : Domain)
     → slice_get tree.domains id.0 ≡ Some domain → (entries : List Entry) → entries ≡ domain.entries
     → IsSomeAnd (node_of tree.domains id) (λ d. CoverageOf d None) → (answer : Option Refusal)
     → FirstOf (NumberedEntryOf id (frames_of tree.domains id)) (numbered 0 entries) answer

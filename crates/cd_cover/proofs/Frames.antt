@@ -4,7 +4,7 @@ use Rattle.std.specs.Option.{option_map_or}
 use Rattle.std.proofs.lemmas.List.{reverse-append}
 use Rattle.cd_tree.specs.declared.domain.NodeId.{NodeId}
 use Rattle.cd_tree.specs.declared.domain.Domain.{Domain}
-use Rattle.cd_tree.specs.Outlines.{Outline, IsTree}
+use Rattle.cd_tree.specs.TreeModel.{TreeModel, IsTree}
 use Rattle.cd_tree.specs.Domains.{Node, node, body_by, node_of}
 use Rattle.cd_tree.specs.Scripts.{path_of}
 use Rattle.cd_tree.specs.Laws.{NestedViewFollows, PathsGoDown}
@@ -27,7 +27,7 @@ over_parent domains id parent path below here =
     ∙ ap (frames_over domains id) (reverse_last path parent)
     ∙ ap (put_frame id.0 (node_of domains parent)) (sym (over_path domains parent path here))
 
-pub frames_up_one : PathsGoDown → NestedViewFollows → (tree : Outline) → IsTree tree → (id parent : NodeId) (domain above : Domain)
+pub frames_up_one : PathsGoDown → NestedViewFollows → (tree : TreeModel) → IsTree tree → (id parent : NodeId) (domain above : Domain)
     → slice_get tree.domains id.0 ≡ Some domain → domain.parent ≡ Some parent → slice_get tree.domains parent.0 ≡ Some above
     → frames_of tree.domains id
     ≡ frame_over id.0 (node parent above (body_by (node_of tree.domains) above.items)) ∷ frames_of tree.domains parent
@@ -38,7 +38,7 @@ frames_up_one paths views tree is id parent domain above there up here =
     over_parent tree.domains id parent (path above.parent) below (paths tree is parent above here)
     ∙ ap (λ (o : Option Node). put_frame id.0 o (frames_of tree.domains parent)) (views tree is parent above here)
 
-pub frames_end : PathsGoDown → (tree : Outline) → IsTree tree → (id : NodeId) (domain : Domain)
+pub frames_end : PathsGoDown → (tree : TreeModel) → IsTree tree → (id : NodeId) (domain : Domain)
     → slice_get tree.domains id.0 ≡ Some domain → domain.parent ≡ None → frames_of tree.domains id ≡ []
 frames_end paths tree is id domain there up =
     let path : Option NodeId → List NodeId = λ o. option_map_or (path_of tree.domains) o [] in

@@ -1,4 +1,5 @@
-mod Worked
+pub mod Worked
+mod WorkedOuter
 pub mod LeastLemmas
 pub mod Frames
 pub mod Views
@@ -11,3 +12,17 @@ pub mod NeedLemmas
 pub mod PlanLemmas
 pub mod LinkLemmas
 pub mod OneAnswer
+pub mod Downward
+pub mod PathLemmas
+pub mod OuterLemmas
+pub mod OuterWhich
+pub mod OuterMembers
+pub mod Fresh
+pub mod OuterSteps
+pub mod NeedsWithin
+pub mod LinksHold
+pub mod AtGroups
+pub mod OuterWalk
+pub mod ThereLemmas
+pub mod OuterAscend
+pub mod RangesRead

@@ -11,7 +11,7 @@ use Rattle.cd_tree.specs.declared.domain.How.{How}
 use Rattle.cd_tree.specs.declared.domain.How.TheVariants.{Copy, Refer, Regen}
 use Rattle.cd_tree.specs.declared.domain.Entry.{Entry}
 use Rattle.cd_tree.specs.declared.domain.Domain.{Domain}
-use Rattle.cd_tree.specs.Outlines.{Outline, IsTree}
+use Rattle.cd_tree.specs.TreeModel.{TreeModel, IsTree}
 use Rattle.cd_tree.specs.Domains.{node, body_by, node_of}
 use Rattle.cd_tree.specs.Scripts.{path_of}
 use Rattle.cd_tree.specs.Legal.{entry_at}
@@ -34,7 +34,7 @@ holder_is r at (first ∷ entries) k entry is =
           (suc rest.0, rest.1 ∙ omega arith, rest.2, rest.3)
     ]
 
-link_by : (r : Range) (frame : Frame) (frames : List Frame) (h : Option (ℕ × Entry)) → holder r 0 frame.entries ≡ h
+pub link_by : (r : Range) (frame : Frame) (frames : List Frame) (h : Option (ℕ × Entry)) → holder r 0 frame.entries ≡ h
     → (up : NodeId) (k : ℕ) → link_in r (frame ∷ frames) ≡ Some (up, k)
     → ((h ≡ None) × (link_in r frames ≡ Some (up, k))) ⊎ ((entry : Entry) × (h ≡ Some (k, entry)) × (frame.node ≡ up))
 link_by r frame frames None is up k link = inl (refl, rw is at link)
@@ -43,7 +43,7 @@ link_by r frame frames (Some (at, entry)) is up k link =
     inr (entry, ap (λ n. Some (n, entry)) same.1, same.0)
 
 -- what a link of a range over a domain leads to
-abbrev Leads : Outline → NodeId → Range → NodeId → ℕ → Type 0
+abbrev pub Leads : TreeModel → NodeId → Range → NodeId → ℕ → Type 0
 Leads tree id r up k = Contains (path_of tree.domains id) up × (up.0 < id.0) × IsSomeAnd (entry_at tree.domains up k) (HoldsLink r)
 
 entry_here : (domains : List Domain) (id up : NodeId) (k : ℕ) (domain : Domain) (entry : Entry) → slice_get domains id.0 ≡ Some domain → id ≡ up
@@ -51,25 +51,25 @@ entry_here : (domains : List Domain) (id up : NodeId) (k : ℕ) (domain : Domain
 entry_here domains id up k domain entry there same is =
     ap (λ i. entry_at domains i k) (sym same) ∙ ap (option_and_then (λ (d : Domain). slice_get d.entries k)) there ∙ is
 
-path_below : PathsGoDown → (tree : Outline) → IsTree tree → (id parent : NodeId) (domain : Domain) → slice_get tree.domains id.0 ≡ Some domain
+path_below : PathsGoDown → (tree : TreeModel) → IsTree tree → (id parent : NodeId) (domain : Domain) → slice_get tree.domains id.0 ≡ Some domain
     → domain.parent ≡ Some parent → path_of tree.domains id ≡ path_of tree.domains parent ++ id ∷ []
 path_below paths tree is id parent domain there some =
     paths tree is id domain there ∙ ap (λ (o : Option NodeId). option_map_or (path_of tree.domains) o [] ++ id ∷ []) some
 
-above_itself : PathsGoDown → (tree : Outline) → IsTree tree → (id parent up : NodeId) (domain above : Domain)
+above_itself : PathsGoDown → (tree : TreeModel) → IsTree tree → (id parent up : NodeId) (domain above : Domain)
     → slice_get tree.domains id.0 ≡ Some domain → domain.parent ≡ Some parent → slice_get tree.domains parent.0 ≡ Some above
     → Contains (path_of tree.domains parent) up → Contains (path_of tree.domains id) up
 above_itself paths tree is id parent up domain above there some here among =
     subst (λ (ids : List NodeId). Contains ids up) (sym (path_below paths tree is id parent domain there some))
     (Contains-append_left (path_of tree.domains parent) (id ∷ []) up among)
 
-on_its_path : PathsGoDown → (tree : Outline) → IsTree tree → (id : NodeId) (domain : Domain) → slice_get tree.domains id.0 ≡ Some domain
+on_its_path : PathsGoDown → (tree : TreeModel) → IsTree tree → (id : NodeId) (domain : Domain) → slice_get tree.domains id.0 ≡ Some domain
     → Contains (path_of tree.domains id) id
 on_its_path paths tree is id domain there =
     subst (λ (ids : List NodeId). Contains ids id) (sym (paths tree is id domain there))
     (Contains-push (option_map_or (path_of tree.domains) domain.parent []) id)
 
-leads_here : (tree : Outline) (id parent up : NodeId) (above : Domain) (r : Range) (k : ℕ) (entry : Entry)
+leads_here : (tree : TreeModel) (id parent up : NodeId) (above : Domain) (r : Range) (k : ℕ) (entry : Entry)
     → Contains (path_of tree.domains id) parent → parent.0 < id.0
     → slice_get tree.domains parent.0 ≡ Some above → holder r 0 above.entries ≡ Some (k, entry) → parent ≡ up → Leads tree id r up k
 leads_here tree id parent up above r k entry among before there holds same =
@@ -82,7 +82,7 @@ leads_here tree id parent up above r k entry among before there holds same =
       some_and (entry_at tree.domains up k) (HoldsLink r) entry here (and_parts (is_kept entry.how) (holds_range entry.range r) found.3),
     )
 
-leads_at : FramesGoUp → FramesEnd → ParentsComeFirst → PathsGoDown → (tree : Outline) → IsTree tree → (n : ℕ) (id : NodeId) (domain : Domain) → id.0 < n
+pub leads_at : FramesGoUp → FramesEnd → ParentsComeFirst → PathsGoDown → (tree : TreeModel) → IsTree tree → (n : ℕ) (id : NodeId) (domain : Domain) → id.0 < n
     → slice_get tree.domains id.0 ≡ Some domain → (r : Range) (up : NodeId) (k : ℕ)
     → link_in r (frames_of tree.domains id) ≡ Some (up, k) → Leads tree id r up k
 leads_at goes ends parents paths tree is zero id domain below there r up k link = absurd (omega arith)

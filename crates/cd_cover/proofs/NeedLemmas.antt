@@ -10,7 +10,7 @@ use Rattle.cd_tree.specs.declared.domain.Item.{Item}
 use Rattle.cd_tree.specs.declared.domain.Item.TheVariants.{Run, Group}
 use Rattle.cd_tree.specs.declared.domain.Domain.{Domain}
 use Rattle.cd_tree.specs.declared.operation.Op.{Op}
-use Rattle.cd_tree.specs.Outlines.{Outline, IsTree, FitsItems, NamesChildren}
+use Rattle.cd_tree.specs.TreeModel.{TreeModel, IsTree, FitsItems, NamesChildren}
 use Rattle.cd_tree.specs.Domains.{Node, number_of, Body, Members, node, members_by, body_by, body_of, put_first, nodes_from, node_of, root_of, node_numbers, body_numbers, member_numbers, numbers_from}
 use Rattle.cd_tree.specs.Meaning.{node_need, body_need, members_need}
 use Rattle.cd_tree.specs.Laws.{NestedViewFollows, NeedIsRoots}
@@ -98,7 +98,7 @@ root_bounded [] some small = absurd (omega arith)
 root_bounded (domain ∷ rest) some small = views_bounded 0 (domain ∷ rest) small 0 (root_of (domain ∷ rest)) refl
 
 -- a whole program needs less than 2^44 blocks
-pub root_small : (tree : Outline) → IsTree tree → AreSmall tree.domains → node_need (root_of tree.domains) < 2048 * 4294967361
+pub root_small : (tree : TreeModel) → IsTree tree → AreSmall tree.domains → node_need (root_of tree.domains) < 2048 * 4294967361
 root_small tree is small =
     let bounded : Bounded (root_of tree.domains) = root_bounded tree.domains is.some small in
     let count : length (node_numbers (root_of tree.domains)) ≡ length tree.domains =
@@ -183,13 +183,13 @@ groups_end domains at so items i past left =
     omega arith
 
 -- what groups need together, in the view of their domain
-pub in_view : (tree : Outline) → IsTree tree → NestedViewFollows → (id : NodeId) (domain : Domain) → slice_get tree.domains id.0 ≡ Some domain
+pub in_view : (tree : TreeModel) → IsTree tree → NestedViewFollows → (id : NodeId) (domain : Domain) → slice_get tree.domains id.0 ≡ Some domain
     → (P : ℕ → Type 0) → P (body_need (body_by (node_of tree.domains) domain.items)) → IsSomeAnd (node_of tree.domains id) (λ d. P (body_need (body_of d)))
 in_view tree is views id domain there P holds =
     some_and (node_of tree.domains id) (λ d. P (body_need (body_of d))) (node id domain (body_by (node_of tree.domains) domain.items))
     (views tree is id domain there) holds
 
-pub of_view : (tree : Outline) → IsTree tree → NestedViewFollows → (id : NodeId) (domain : Domain) → slice_get tree.domains id.0 ≡ Some domain
+pub of_view : (tree : TreeModel) → IsTree tree → NestedViewFollows → (id : NodeId) (domain : Domain) → slice_get tree.domains id.0 ≡ Some domain
     → (P : ℕ → Type 0) → IsSomeAnd (node_of tree.domains id) (λ d. P (body_need (body_of d))) → P (body_need (body_by (node_of tree.domains) domain.items))
 of_view tree is views id domain there P holds =
     subst (λ o. IsSomeAnd o (λ d. P (body_need (body_of d)))) (views tree is id domain there) holds
@@ -227,7 +227,7 @@ down_all domains needs is =
         let size : length (nodes_from 0 domains) ≡ length domains = length-nodes_from 0 domains in
         omega arith
 
-pub down_one : (tree : Outline) → IsTree tree → NestedViewFollows → (id : NodeId) (domain : Domain) → slice_get tree.domains id.0 ≡ Some domain
+pub down_one : (tree : TreeModel) → IsTree tree → NestedViewFollows → (id : NodeId) (domain : Domain) → slice_get tree.domains id.0 ≡ Some domain
     → (needs : List ℕ) (v more : ℕ) → v ≡ get_or needs id.0 v
     → IsSomeAnd (node_of tree.domains id) (λ d. more ≡ body_need (body_of d))
     → NeedsDown tree.domains (id.0 + 1) needs → NeedsDown tree.domains id.0 (set needs id.0 (v + more))
@@ -278,7 +278,7 @@ down_end domains k needs none down =
     same_as_map needs (nodes_from 0 domains) (down.size ∙ sym (length-nodes_from 0 domains)) (λ i d there. down.holds i d (omega arith) there)
 
 -- a domain needs less than 2^44 blocks
-pub need_small : (tree : Outline) → IsTree tree → NestedViewFollows → NeedIsRoots → AreSmall tree.domains → (id : NodeId) (domain : Domain)
+pub need_small : (tree : TreeModel) → IsTree tree → NestedViewFollows → NeedIsRoots → AreSmall tree.domains → (id : NodeId) (domain : Domain)
     → slice_get tree.domains id.0 ≡ Some domain
     → own_need domain + body_need (body_by (node_of tree.domains) domain.items) < 2048 * 4294967361
 need_small tree is views roots small id domain there =
@@ -287,7 +287,7 @@ need_small tree is views roots small id domain there =
     roots tree is id (node id domain (body_by (node_of tree.domains) domain.items)) (views tree is id domain there) in
     omega arith
 
-pub added_small : (tree : Outline) → IsTree tree → NestedViewFollows → NeedIsRoots → AreSmall tree.domains → (id : NodeId) (domain : Domain)
+pub added_small : (tree : TreeModel) → IsTree tree → NestedViewFollows → NeedIsRoots → AreSmall tree.domains → (id : NodeId) (domain : Domain)
     → slice_get tree.domains id.0 ≡ Some domain → (needs : List ℕ) (v more : ℕ) → v ≡ get_or needs id.0 v
     → IsSomeAnd (node_of tree.domains id) (λ d. more ≡ body_need (body_of d))
     → (k : ℕ) → k ≡ id.0 + 1 → NeedsDown tree.domains k needs → v + more < 2048 * 4294967361

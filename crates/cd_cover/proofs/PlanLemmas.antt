@@ -10,7 +10,7 @@ use Rattle.cd_tree.specs.declared.domain.How.{How}
 use Rattle.cd_tree.specs.declared.domain.How.TheVariants.{Copy, Refer, Regen}
 use Rattle.cd_tree.specs.declared.domain.Entry.{Entry}
 use Rattle.cd_tree.specs.declared.domain.Domain.{Domain}
-use Rattle.cd_tree.specs.Outlines.{Outline, IsTree}
+use Rattle.cd_tree.specs.TreeModel.{TreeModel, IsTree}
 use Rattle.cd_tree.specs.Domains.{Node, node, body_by, nodes_from, node_of, root_of}
 use Rattle.cd_tree.specs.Meaning.{IsCovered, uncovered, node_need}
 use Rattle.cd_tree.specs.Legal.{entry_at}
@@ -18,7 +18,7 @@ use Rattle.cd_tree.specs.Laws.{NestedViewFollows, CoveredByDomains, NeedIsRoots}
 use Rattle.cd_tree.specs.Refusals.{FirstOf, numbered}
 use Rattle.cd_cover.specs.Links.{Frame, frames_of, link_in, link_of, by_way, entry_link}
 use Rattle.cd_cover.specs.Checks.{EntryOf, NumberedEntryOf, DomainOf}
-use Rattle.cd_cover.specs.Plans.{Planned, IsPlan, HasFreshLinks, links_of}
+use Rattle.cd_cover.specs.Plans.{PlanModel, IsPlan, HasFreshLinks, links_of}
 use Rattle.cd_cover.proofs.Views.{some_of, some_and, domain_here, length-nodes_from}
 
 -- ---- no flaw
@@ -34,7 +34,7 @@ each_clear domains (view ∷ views) (here, rest) (suc k) d there = each_clear do
 leaves_nothing_out : (domains : List Domain) (d : Node) → DomainOf domains d None → (p : Place) → uncovered d p ≡ false
 leaves_nothing_out domains (node id domain body) (covered, entries) = covered
 
-pub covered : (tree : Outline) → IsTree tree → CoveredByDomains → FirstOf (DomainOf tree.domains) (nodes_from 0 tree.domains) None
+pub covered : (tree : TreeModel) → IsTree tree → CoveredByDomains → FirstOf (DomainOf tree.domains) (nodes_from 0 tree.domains) None
     → IsCovered (root_of tree.domains)
 covered tree is by_domains clear =
     (by_domains tree is).0
@@ -51,7 +51,7 @@ entry_clear id frames at (entry ∷ entries) (here, rest) (suc k) e there =
     let sum : at + suc k ≡ suc at + k = omega arith in
     rw sum (entry_clear id frames (suc at) entries rest k e there)
 
-pub fresh_links : (tree : Outline) → IsTree tree → NestedViewFollows → FirstOf (DomainOf tree.domains) (nodes_from 0 tree.domains) None
+pub fresh_links : (tree : TreeModel) → IsTree tree → NestedViewFollows → FirstOf (DomainOf tree.domains) (nodes_from 0 tree.domains) None
     → HasFreshLinks tree
 fresh_links tree is views clear id at entry there refers =
     let found = entry_in (slice_get tree.domains id.0) at entry there in
@@ -76,7 +76,7 @@ root_read (first ∷ rest) needs v some is read = read ∙ ap (λ (xs : List ℕ
 
 -- ---- what a plan gives
 
-view_of : (tree : Outline) → IsTree tree → NestedViewFollows → (id : NodeId) → id.0 < length tree.domains
+view_of : (tree : TreeModel) → IsTree tree → NestedViewFollows → (id : NodeId) → id.0 < length tree.domains
     → (domain : Domain) × (slice_get tree.domains id.0 ≡ Some domain)
     × (node_of tree.domains id ≡ Some (node id domain (body_by (node_of tree.domains) domain.items)))
 view_of tree is views id within =
@@ -89,13 +89,13 @@ map_read f xs k x ys y is there read =
     let found : slice_get ys k ≡ Some (f x) = ap (λ zs. slice_get zs k) is ∙ slice_get-map f xs k ∙ ap (option_map f) there in
     read ∙ get_or_from_slice_get ys k (f x) y found
 
-pub needs_within : (plan : Planned) → IsPlan plan → (id : NodeId) → id.0 < length plan.tree.domains → id.0 < length plan.needs
+pub needs_within : (plan : PlanModel) → IsPlan plan → (id : NodeId) → id.0 < length plan.tree.domains → id.0 < length plan.needs
 needs_within plan is id within =
     let size : length plan.needs ≡ length plan.tree.domains =
     ap length is.need ∙ length-map (nodes_from 0 plan.tree.domains) node_need ∙ length-nodes_from 0 plan.tree.domains in
     omega arith
 
-pub need_read : (plan : Planned) → IsPlan plan → NestedViewFollows → (id : NodeId) → id.0 < length plan.tree.domains
+pub need_read : (plan : PlanModel) → IsPlan plan → NestedViewFollows → (id : NodeId) → id.0 < length plan.tree.domains
     → (v : ℕ) → v ≡ get_or plan.needs id.0 v → IsSomeAnd (node_of plan.tree.domains id) (λ d. v ≡ node_need d)
 need_read plan is views id within v read =
     let view = view_of plan.tree is.program views id within in
@@ -103,7 +103,7 @@ need_read plan is views id within v read =
     (map_read node_need (nodes_from 0 plan.tree.domains) id.0 (node id view.0 (body_by (node_of plan.tree.domains) view.0.items)) plan.needs v
     is.need view.2 read)
 
-pub need_fits : (plan : Planned) → IsPlan plan → NestedViewFollows → NeedIsRoots → (id : NodeId) → id.0 < length plan.tree.domains
+pub need_fits : (plan : PlanModel) → IsPlan plan → NestedViewFollows → NeedIsRoots → (id : NodeId) → id.0 < length plan.tree.domains
     → (v : ℕ) → v ≡ get_or plan.needs id.0 v → v ≤ 65536
 need_fits plan is views roots id within v read =
     let view = some_of (node_of plan.tree.domains id) (λ d. v ≡ node_need d) (need_read plan is views id within v read) in
@@ -123,7 +123,7 @@ entry_found (Some domain) at some = entry_some (slice_get domain.entries at) ref
     entry_some None is some = absurd (cc)
     entry_some (Some entry) is some = (domain, entry, refl, is)
 
-pub link_read : (plan : Planned) → IsPlan plan → NestedViewFollows → (id : NodeId) (at : ℕ) → IsSome (entry_at plan.tree.domains id at)
+pub link_read : (plan : PlanModel) → IsPlan plan → NestedViewFollows → (id : NodeId) (at : ℕ) → IsSome (entry_at plan.tree.domains id at)
     → (row : List (Option (NodeId × ℕ))) → row ≡ get_or plan.links id.0 row
     → get_or row at None ≡ link_of plan.tree.domains id at
 link_read plan is views id at some row read =
@@ -150,7 +150,7 @@ way_none Refer r frames linked = (
 )
 way_none (Regen pattern) r frames linked = (λ none same. absurd (cc), λ differs. refl)
 
-pub link_none : (plan : Planned) → IsPlan plan → (id : NodeId) (at : ℕ) → IsSome (entry_at plan.tree.domains id at)
+pub link_none : (plan : PlanModel) → IsPlan plan → (id : NodeId) (at : ℕ) → IsSome (entry_at plan.tree.domains id at)
     → (link : Option (NodeId × ℕ)) → link ≡ link_of plan.tree.domains id at
     → (link ≡ None) ↔ IsSomeAnd (entry_at plan.tree.domains id at) (λ e. e.how ≢ Refer)
 link_none plan is id at some link value =

@@ -14,7 +14,7 @@ use Rattle.cd_tree.specs.declared.domain.Entry.{Entry}
 use Rattle.cd_tree.specs.declared.domain.Domain.{Domain}
 use Rattle.cd_tree.specs.declared.operation.Op.{Op}
 use Rattle.cd_tree.specs.Operations.{op_writes}
-use Rattle.cd_tree.specs.Outlines.{Outline, IsTree, FitsItems, NamesChildren}
+use Rattle.cd_tree.specs.TreeModel.{TreeModel, IsTree, FitsItems, NamesChildren}
 use Rattle.cd_tree.specs.Domains.{Node, Members, node, body_of, members_by, body_by, put_first, node_of}
 use Rattle.cd_tree.specs.Meaning.{node_writes, member_writes}
 use Rattle.cd_tree.specs.Laws.{NestedViewFollows}
@@ -172,7 +172,7 @@ members_end r find ids i found past left =
     (λ q. rw (drop_all i ids past) (and_right (in_range r q) false refl))
 
 -- what the items of a domain write is what its view says
-pub at_view : (tree : Outline) → IsTree tree → NestedViewFollows → (parent : NodeId) (above : Domain) → slice_get tree.domains parent.0 ≡ Some above
+pub at_view : (tree : TreeModel) → IsTree tree → NestedViewFollows → (parent : NodeId) (above : Domain) → slice_get tree.domains parent.0 ≡ Some above
     → (r : Range) (child : ℕ) (items : List Item) → items ≡ above.items → (x : Option Place)
     → IsLeast (by_items r child (node_of tree.domains) items) x
     → IsSomeAnd (node_of tree.domains parent) (λ d. IsLeast (λ q. in_range r q && written_before child (body_of d) q) x)

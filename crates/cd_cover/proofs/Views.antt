@@ -7,7 +7,7 @@ use Rattle.std.proofs.lemmas.Option.{slice_get_within, get_or_from_slice_get}
 use Rattle.cd_tree.specs.declared.domain.NodeId.{NodeId}
 use Rattle.cd_tree.specs.declared.domain.Domain.{Domain}
 use Rattle.cd_tree.specs.declared.kinds.KindName.{KindName}
-use Rattle.cd_tree.specs.Outlines.{Outline, IsTree, FitsDomain, EachFits, NamesChildren}
+use Rattle.cd_tree.specs.TreeModel.{TreeModel, IsTree, FitsDomain, EachFits, NamesChildren}
 use Rattle.cd_tree.specs.Domains.{Node, Members, members_by, put_first, nodes_from, node_of, number_of}
 use Rattle.cd_cover.specs.Links.{has_member}
 
@@ -63,7 +63,7 @@ fits_at kinds all at (first ∷ rest) (suc k) domain (here, each) there =
     let sum : at + suc k ≡ suc at + k = omega arith in
     rw sum (fits_at kinds all (suc at) rest k domain each there)
 
-pub tree_fits : (tree : Outline) → IsTree tree → (id : NodeId) (domain : Domain) → slice_get tree.domains id.0 ≡ Some domain
+pub tree_fits : (tree : TreeModel) → IsTree tree → (id : NodeId) (domain : Domain) → slice_get tree.domains id.0 ≡ Some domain
     → FitsDomain tree.kinds tree.domains id.0 domain
 tree_fits tree is id domain there =
     subst (λ n. FitsDomain tree.kinds tree.domains n domain) (zero-add id.0)

@@ -9,7 +9,7 @@ use Rattle.cd_tree.specs.declared.domain.How.{How}
 use Rattle.cd_tree.specs.declared.domain.How.TheVariants.{Copy, Refer, Regen}
 use Rattle.cd_tree.specs.declared.domain.Entry.{Entry}
 use Rattle.cd_tree.specs.declared.domain.Domain.{Domain}
-use Rattle.cd_tree.specs.Outlines.{Outline, IsTree}
+use Rattle.cd_tree.specs.TreeModel.{TreeModel, IsTree}
 use Rattle.cd_tree.specs.Domains.{node, body_by, body_of, node_of}
 use Rattle.cd_tree.specs.Laws.{NestedViewFollows}
 use Rattle.cd_cover.specs.Least.{earlier_of}
@@ -73,7 +73,7 @@ way_goes_on own sought outer frame frames here beyond is least rest =
     (least_or S T here beyond least rest)
 
 -- what the view of a domain writes is what its frame has
-in_view : (tree : Outline) → IsTree tree → NestedViewFollows → (id parent : NodeId) (domain : Domain) → slice_get tree.domains parent.0 ≡ Some domain
+in_view : (tree : TreeModel) → IsTree tree → NestedViewFollows → (id parent : NodeId) (domain : Domain) → slice_get tree.domains parent.0 ≡ Some domain
     → (own : Range) (here : Option Place)
     → IsSomeAnd (node_of tree.domains parent) (λ d. IsLeast (λ q. in_range own q && written_before id.0 (body_of d) q) here)
     → IsLeast (λ q. in_range own q && (frame_over id.0 (node parent domain (body_by (node_of tree.domains) domain.items))).before q) here
@@ -81,7 +81,7 @@ in_view tree is views id parent domain there own here least =
     subst (λ o. IsSomeAnd o (λ d. IsLeast (λ q. in_range own q && written_before id.0 (body_of d) q) here))
     (views tree is parent domain there) least
 
-pub ends_here : (tree : Outline) → IsTree tree → NestedViewFollows → FramesGoUp → (id parent : NodeId) (domain over : Domain)
+pub ends_here : (tree : TreeModel) → IsTree tree → NestedViewFollows → FramesGoUp → (id parent : NodeId) (domain over : Domain)
     → slice_get tree.domains id.0 ≡ Some domain → domain.parent ≡ Some parent → slice_get tree.domains parent.0 ≡ Some over
     → (own sought : Range) (entries : List Entry) → entries ≡ over.entries → (next : Option Range) → next ≡ sought_above sought entries → next ≡ None
     → (here : Option Place)
@@ -94,7 +94,7 @@ ends_here tree is views frames id parent domain over there up here own sought en
     (ap (sought_above sought) (sym same) ∙ sym seeks ∙ none)
     (in_view tree is views id parent over here own found least))
 
-pub goes_on : (tree : Outline) → IsTree tree → NestedViewFollows → FramesGoUp → (id parent : NodeId) (domain over : Domain)
+pub goes_on : (tree : TreeModel) → IsTree tree → NestedViewFollows → FramesGoUp → (id parent : NodeId) (domain over : Domain)
     → slice_get tree.domains id.0 ≡ Some domain → domain.parent ≡ Some parent → slice_get tree.domains parent.0 ≡ Some over
     → (own sought outer : Range) (entries : List Entry) → entries ≡ over.entries → (next : Option Range) → next ≡ sought_above sought entries
     → next ≡ Some outer → (here beyond all : Option Place)

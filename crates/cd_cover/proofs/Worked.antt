@@ -15,46 +15,46 @@ use Rattle.cd_tree.specs.Meaning.{node_need}
 use Rattle.cd_cover.specs.Links.{frames_of, link_of, target_in, stale}
 use Rattle.cd_cover.specs.Outer.{outer_references}
 
-abbrev number : ℕ → NodeId
+abbrev pub number : ℕ → NodeId
 number n = record { 0 = n }
 
-abbrev part : ℕ → ℕ → ℕ → Range
+abbrev pub part : ℕ → ℕ → ℕ → Range
 part region low high = record { region = region; low = low; high = high }
 
-abbrev place : ℕ → ℕ → Place
+abbrev pub place : ℕ → ℕ → Place
 place region index = record { region = region; index = index }
 
-abbrev copied : Range → Entry
+abbrev pub copied : Range → Entry
 copied range = record { range = range; how = Copy }
 
-abbrev referred : Range → Entry
+abbrev pub referred : Range → Entry
 referred range = record { range = range; how = Refer }
 
-abbrev given_anew : Range → Entry
+abbrev pub given_anew : Range → Entry
 given_anew range = record { range = range; how = Regen (Const 7) }
 
-abbrev domain : Option NodeId → List Entry → List Item → Domain
+abbrev pub domain : Option NodeId → List Entry → List Item → Domain
 domain parent entries items =
     record { name = []; parent = parent; retry = 1; detects = 0; entries = entries; items = items }
 
 -- the root writes words 2 and 3 of region 0 before the group and word 5 behind it; its child, word 6 before its own group
-abbrev root : Domain
+abbrev pub root : Domain
 root =
     domain None (copied (part 0 0 8) ∷ copied (part 1 0 4) ∷ [])
     (Run (Fill (part 0 2 4) 1) ∷ Group (number 1 ∷ number 3 ∷ []) ∷ Run (Fill (part 0 5 6) 1) ∷ [])
 
-abbrev between : List Entry → Domain
+abbrev pub between : List Entry → Domain
 between entries =
     domain (Some (number 0)) entries (Run (Fill (part 0 6 7) 1) ∷ Group (number 2 ∷ []) ∷ [])
 
-abbrev last : List Entry → Domain
+abbrev pub last : List Entry → Domain
 last entries = domain (Some (number 1)) entries []
 
 -- a member beside, which writes word 1 of region 1
-abbrev beside : Domain
+abbrev pub beside : Domain
 beside = domain (Some (number 0)) [] (Run (Fill (part 1 1 2) 1) ∷ [])
 
-abbrev program : List Entry → List Entry → List Domain
+abbrev pub program : List Entry → List Entry → List Domain
 program middle inner = root ∷ between middle ∷ last inner ∷ beside ∷ []
 
 -- ---- links

@@ -13,6 +13,7 @@ use Rattle.cd_tree.specs.declared.refusal.Which.TheVariants as which
 use Rattle.cd_tree.specs.declared.refusal.Refusal.{Refusal}
 use Rattle.cd_tree.specs.declared.refusal.Refusal.TheVariants.{Uncovered, NoTarget, Stale, Limit}
 use Rattle.cd_tree.specs.Domains.{Node, node, number_of, nodes_from, root_of}
+use Rattle.cd_tree.specs.Limits.{need_limit}
 use Rattle.cd_tree.specs.Meaning.{uncovered, node_need}
 use Rattle.cd_tree.specs.Refusals.{Then, FirstOf, numbered}
 use Rattle.cd_cover.specs.Links.{Frame, frames_of, link_in, stale, IsFresh}
@@ -47,8 +48,8 @@ DomainOf domains (node id domain body) answer =
 
 -- the blocks that a run of the program needs
 abbrev pub NeedOf : Node → Option Refusal → Type 0
-NeedOf root None = node_need root ≤ 65536
-NeedOf root (Some (Limit limit count)) = (limit ≡ which.Need) × (count ≡ node_need root) × (65536 < count)
+NeedOf root None = node_need root ≤ need_limit
+NeedOf root (Some (Limit limit count)) = (limit ≡ which.Need) × (count ≡ node_need root) × (need_limit < count)
 NeedOf root (Some _) = ⊥
 
 -- the first refusal of a program's plan

@@ -7,3 +7,8 @@ pub mod Laws
 pub mod Seeking
 pub mod Needs
 pub mod Results
+pub mod OuterLaws
+pub mod OuterLeft
+pub mod PlanLaws
+pub mod KeptWords
+pub mod There

@@ -3,7 +3,7 @@ ghost use Rattle.std.specs.Prelude.{◌≡◌, ◌<◌, ◌^◌, length, map, If
 ghost use Rattle.cd_base.specs.Places.{IsLeast};
 ghost use Rattle.cd_tree.specs.Domains.{node_of, nodes_from};
 ghost use Rattle.cd_tree.specs.Meaning.{uncovered};
-ghost use Rattle.cd_tree.specs.Outlines.{IsTree};
+ghost use Rattle.cd_tree.specs.TreeModel.{IsTree};
 ghost use Rattle.cd_tree.specs.Refusals.{FirstOf, numbered};
 ghost use Rattle.cd_foot.specs.Feet.{AreFeet};
 ghost use Rattle.cd_cover.specs.Links.{frames_of};

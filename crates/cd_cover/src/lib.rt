@@ -7,9 +7,11 @@ pub mod laws;
 mod least;
 mod links;
 mod needs;
+mod outer;
 mod planning;
 mod settled;
 mod written;
 
+pub use outer::OuterReferences;
 pub use planning::plan;
 pub use settled::Plan;

@@ -1,7 +1,7 @@
 // Where references lead.
 ghost use Rattle.std.specs.Prelude.{◌≡◌, ◌<◌, ◌^◌, ◌&&◌, length, map, IfOk, IsSomeAnd};
 ghost use Rattle.cd_tree.specs.Domains.{node_of, nodes_from};
-ghost use Rattle.cd_tree.specs.Outlines.{IsTree};
+ghost use Rattle.cd_tree.specs.TreeModel.{IsTree};
 ghost use Rattle.cd_cover.specs.Links.{holder, holds_range, is_kept, by_way, frames_of, link_in, entry_link};
 ghost use Rattle.cd_cover.specs.Plans.{links_of};
 ghost use Rattle.cd_cover.specs.Seeking.{sought_above};

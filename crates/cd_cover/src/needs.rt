@@ -1,8 +1,9 @@
 // How many blocks a run of each domain needs.
 ghost use Rattle.std.specs.Prelude.{◌≡◌, ◌<◌, ◌≤◌, ◌+◌, ◌*◌, ◌^◌, All, length, map, sum_by, slice_index, IfOk, OnOk, IsSomeAnd};
+ghost use Rattle.cd_tree.specs.Limits.{entries_limit};
 ghost use Rattle.cd_tree.specs.Domains.{node_of, nodes_from, body_of};
 ghost use Rattle.cd_tree.specs.Meaning.{entry_need, body_need, node_need};
-ghost use Rattle.cd_tree.specs.Outlines.{IsTree};
+ghost use Rattle.cd_tree.specs.TreeModel.{IsTree};
 ghost use Rattle.cd_cover.specs.Needs.{own_need, most_own, AreSmall, HoldsFrom};
 
 use cd_base::NoMemory;
@@ -23,7 +24,7 @@ fn entry_blocks(entry: Entry) -> u64
 
 // The blocks of a domain's own entries.
 fn own_blocks(entries: &[Entry]) -> u64
-    requires { length entries.now ≤ 64 }
+    requires { length entries.now ≤ entries_limit }
     ensures value { result ≡ sum_by entry_need entries.now }
     ensures small { result ≤ most_own }
 {

@@ -10,11 +10,9 @@ use crate::links::all_links;
 use crate::needs::needs_of;
 use cd_base::NoMemory;
 use cd_foot::Footprints;
+use cd_tree::limits::MOST_NEED;
 use cd_tree::{Refusal, Refuse, Tree, Which};
 use std::alloc::Global;
-
-// The most blocks that a run may need.
-const MOST_BLOCKS: u64 = 65536;
 
 /// The plan of a program. Its domains are tried in preorder: first whether each place that a domain's body touches is in
 /// one of its entries, then each entry in order, whether a reference has a link and is fresh. At last the need of the whole
@@ -49,7 +47,7 @@ fn planned<'a>(
     }
     let needs = needs_of(alloc, tree)?;
     let need = needs[0];
-    if need > MOST_BLOCKS {
+    if need > MOST_NEED {
         return Ok(Err(Refusal::Limit(Which::Need, need)));
     }
     let links = all_links(alloc, tree)?;

@@ -4,9 +4,11 @@ ghost use Rattle.cd_tree.specs.Domains.{node_of};
 ghost use Rattle.cd_tree.specs.Legal.{entry_at};
 ghost use Rattle.cd_tree.specs.Meaning.{node_need};
 ghost use Rattle.cd_cover.specs.Links.{link_of};
+ghost use Rattle.cd_cover.specs.Outer.{outer_references};
 ghost use Rattle.cd_cover.specs.Plans.{IsPlan};
 
 use crate::links::Links;
+use crate::{OuterReferences, laws};
 use cd_foot::Footprints;
 use cd_tree::{NodeId, Tree};
 use std::marker::Model;
@@ -22,9 +24,9 @@ pub struct Plan<'a> {
 }
 
 impl<'a> Model for Plan<'a> {
-    ghost use Rattle.cd_cover.specs.Plans.{Planned, IsPlan};
+    ghost use Rattle.cd_cover.specs.Plans.{PlanModel, IsPlan};
 
-    ghost Value = { Planned };
+    ghost Value = { PlanModel };
 
     ghost view = { λ plan. record { tree = plan.tree.now; feet = plan.feet.now; links = plan.links.items; needs = plan.needs.items } };
 
@@ -85,5 +87,19 @@ impl<'a> Plan<'a> {
     {
         cd_tree::laws::the_nested_view_follows_the_list();
         self.links[node.0 as usize].items()[entry as usize]
+    }
+
+    /// The outer references of a domain, one after another in preorder: the references of it and of the domains below it whose
+    /// link lies above it. It takes no memory. To go through them all takes one step for each entry of the domain's subtree.
+    pub fn outer_references(&self, node: NodeId) -> OuterReferences<'_>
+        requires { node.0 < length self.now.tree.domains }
+        ensures { IsSomeAnd (node_of self.now.tree.domains node) (λ d. result ≡ outer_references d) }
+    {
+        laws::outer_references_lead_out();
+        cd_tree::laws::the_nested_view_follows_the_list();
+        cd_tree::laws::subtrees_are_slices();
+        cd_tree::laws::children_fill_slices();
+        let end = self.tree.end_of(node);
+        OuterReferences::of(&self.links, node.0, end - node.0)
     }
 }

@@ -5,7 +5,7 @@ ghost use Rattle.cd_base.specs.Places.{IsLeast};
 ghost use Rattle.cd_base.specs.Words.{in_range};
 ghost use Rattle.cd_tree.specs.Domains.{members_by, body_of, node_of};
 ghost use Rattle.cd_tree.specs.Meaning.{node_writes, member_writes};
-ghost use Rattle.cd_tree.specs.Outlines.{IsTree};
+ghost use Rattle.cd_tree.specs.TreeModel.{IsTree};
 ghost use Rattle.cd_foot.specs.Feet.{AreFeet};
 ghost use Rattle.cd_cover.specs.Links.{written_before, frames_of};
 ghost use Rattle.cd_cover.specs.Seeking.{written_on_the_way};

@@ -7,11 +7,12 @@ use Rattle.std.proofs.lemmas.Bool.{eq-eqb, cases_Bool, and_parts, and_from, case
 use Rattle.std.proofs.lemmas.Bool.Decides.{nat_tests}
 use Rattle.cd_base.specs.declared.place.Place.{Place}
 use Rattle.cd_base.specs.declared.place.Range.{Range}
+use Rattle.cd_base.specs.Places.{is_before}
 use Rattle.cd_base.specs.Words.{same_place, in_range}
 use Rattle.cd_tree.specs.Operations.{length_of}
 use Rattle.cd_field.specs.declared.flat_words.Slot.{Slot}
 use Rattle.cd_field.proofs.PlaceLemmas.{same_place-eq}
-use Rattle.cd_field.specs.Flat.{index_of, item_by, is_lost, slot_at, no_slot, is_behind, IsInOrder, HasRoom, IsWhole}
+use Rattle.cd_field.specs.Flat.{index_of, item_by, is_lost, slot_at, no_slot, IsInOrder, HasRoom, IsWhole}
 
 -- ---- choices
 
@@ -29,18 +30,18 @@ other {A} b x y e = rw e refl
 
 -- ---- ranges
 
-record Inside (r : Range) (p : Place) : Type 0 where
+pub record Inside (r : Range) (p : Place) : Type 0 where
   pub region : r.region ≡ p.region
   pub low : r.low ≤ p.index
   pub high : p.index < r.high
 
-inside_from : (r : Range) (p : Place) → in_range r p ≡ true → Inside r p
+pub inside_from : (r : Range) (p : Place) → in_range r p ≡ true → Inside r p
 inside_from r p h =
     let parts : ((r.region == p.region) ≡ true) × ((nat_le r.low p.index && nat_lt p.index r.high) ≡ true) = and_parts _ _ h in
     let ends : (nat_le r.low p.index ≡ true) × (nat_lt p.index r.high ≡ true) = and_parts _ _ parts.1 in
     record { region = grind (arith, nat_tests); low = grind (arith, nat_tests); high = grind (arith, nat_tests) }
 
-inside_to : (r : Range) (p : Place) → Inside r p → in_range r p ≡ true
+pub inside_to : (r : Range) (p : Place) → Inside r p → in_range r p ≡ true
 inside_to r p h =
     let region : (r.region == p.region) ≡ true = eq-eqb _ _ h.region in
     let low : nat_le r.low p.index ≡ true = (let l : r.low ≤ p.index = h.low in grind (arith, nat_tests)) in
@@ -58,6 +59,13 @@ ends_says a b h i e =
     elim (cases_lt a b) [
       | inl l ↦ inl l
       | inr l ↦ inr (grind (arith, nat_tests), grind (arith, nat_tests))
+    ]
+
+pub before_says : (a b h l : ℕ) → (nat_lt a b || ((a == b) && nat_lt h l)) ≡ true → (a < b) ⊎ ((a ≡ b) × (h < l))
+before_says a b h l e =
+    elim (cases_lt a b) [
+      | inl m ↦ inl m
+      | inr m ↦ inr (grind (arith, nat_tests), grind (arith, nat_tests))
     ]
 
 begins_says : (a b l i : ℕ) → (nat_lt b a || ((a == b) && nat_lt i l)) ≡ true → (b < a) ⊎ ((a ≡ b) × (i < l))
@@ -80,12 +88,12 @@ ended r p e = not_true _ (λ t.
       | inr m ↦ (let high : p.index < r.high = i.high in omega arith)
     ])
 
-pub ended_earlier : (r s : Range) (p : Place) → is_behind r s ≡ true → s.low ≤ s.high → ends_before s p ≡ true → in_range r p ≡ false
+pub ended_earlier : (r s : Range) (p : Place) → is_before r s ≡ true → s.low ≤ s.high → ends_before s p ≡ true → in_range r p ≡ false
 ended_earlier r s p behind proper e = not_true _ (λ t.
     let i : Inside r p = inside_from r p t in
     let region : r.region ≡ p.region = i.region in
     let high : p.index < r.high = i.high in
-    elim (ends_says r.region s.region r.high s.low behind) [
+    elim (before_says r.region s.region r.high s.low behind) [
       | inl l ↦ elim (ends_says s.region p.region s.high p.index e) [
         | inl m ↦ omega arith
         | inr m ↦ omega arith
@@ -106,12 +114,12 @@ begun r p e = not_true _ (λ t.
       | inr m ↦ omega arith
     ])
 
-pub begun_later : (r s : Range) (p : Place) → is_behind r s ≡ true → r.low ≤ r.high → begins_behind r p ≡ true → in_range s p ≡ false
+pub begun_later : (r s : Range) (p : Place) → is_before r s ≡ true → r.low ≤ r.high → begins_behind r p ≡ true → in_range s p ≡ false
 begun_later r s p behind proper e = not_true _ (λ t.
     let i : Inside s p = inside_from s p t in
     let region : s.region ≡ p.region = i.region in
     let low : s.low ≤ p.index = i.low in
-    elim (ends_says r.region s.region r.high s.low behind) [
+    elim (before_says r.region s.region r.high s.low behind) [
       | inl l ↦ elim (begins_says r.region p.region r.low p.index e) [
         | inl m ↦ omega arith
         | inr m ↦ omega arith
@@ -127,7 +135,7 @@ covered r p e f =
     let n : (r.region ≡ p.region) × (r.low ≤ p.index) × (p.index < r.high) = neither_says r.region p.region r.low r.high p.index e f in
     inside_to r p (record { region = n.0; low = n.1; high = n.2 })
 
-pub apart_behind : (r s : Range) (p : Place) → is_behind r s ≡ true → in_range r p ≡ true → in_range s p ≡ false
+pub apart_behind : (r s : Range) (p : Place) → is_before r s ≡ true → in_range r p ≡ true → in_range s p ≡ false
 apart_behind r s p behind h = not_true _ (λ t.
     let i : Inside r p = inside_from r p h in
     let j : Inside s p = inside_from s p t in
@@ -135,7 +143,7 @@ apart_behind r s p behind h = not_true _ (λ t.
     let there : s.region ≡ p.region = j.region in
     let high : p.index < r.high = i.high in
     let low : s.low ≤ p.index = j.low in
-    elim (ends_says r.region s.region r.high s.low behind) [
+    elim (before_says r.region s.region r.high s.low behind) [
       | inl l ↦ omega arith
       | inr l ↦ omega arith
     ])
@@ -160,13 +168,13 @@ index_hit (slot ∷ slots) p (suc k) short hit miss =
     ∙ index_hit slots p k (omega arith) hit (λ j before. miss (suc j) (omega arith))
 
 -- the slot that says where a place stands
-record Found (slots : List Slot) (p : Place) (i : ℕ) : Type 0 where
+pub record Found (slots : List Slot) (p : Place) (i : ℕ) : Type 0 where
   pub k : ℕ
   pub short : k < length slots
   pub has : in_range (slot_at slots k).range p ≡ true
   pub is : (slot_at slots k).first + (p.index - (slot_at slots k).range.low) ≡ i
 
-index_found : (slots : List Slot) (p : Place) (i : ℕ) → index_of slots p ≡ Some i → Found slots p i
+pub index_found : (slots : List Slot) (p : Place) (i : ℕ) → index_of slots p ≡ Some i → Found slots p i
 index_found [] p i e = absurd (cc)
 index_found (slot ∷ slots) p i e =
     by_test (in_range slot.range p)
@@ -327,7 +335,7 @@ lost_choice false lost o = refl
 
 -- ---- one slot more
 
-by_option : {A P : Type 0} (o : Option A) → (o ≡ None → P) → ((x : A) → o ≡ Some x → P) → P
+pub by_option : {A P : Type 0} (o : Option A) → (o ≡ None → P) → ((x : A) → o ≡ Some x → P) → P
 by_option {A} {P} None none some = none refl
 by_option {A} {P} (Some x) none some = some x refl
 
@@ -361,7 +369,7 @@ new_item {A} items item n i short =
 
 -- each slot's range ends before this one
 abbrev AllBehind : List Slot → Range → Type 0
-AllBehind slots r = (k : ℕ) → k < length slots → is_behind (slot_at slots k).range r ≡ true
+AllBehind slots r = (k : ℕ) → k < length slots → is_before (slot_at slots k).range r ≡ true
 
 pub opened : {A : Type 0} (slots : List Slot) (items : List A) (r : Range) (item : A) (q : Place) → HasRoom slots (length items)
     → AllBehind slots r
@@ -418,15 +426,15 @@ order_pushed slots slot order proper behind = record {
   proper = each_pushed (λ (s : Slot). s.range.low ≤ s.range.high) slots slot order.proper proper;
   order = λ j k before short.
       let j_short : j < length slots = omega (arith, length-append slots (slot ∷ [])) in
-      let P : Slot → Type 0 = λ s. is_behind s.range (slot_at (slots ++ slot ∷ []) k).range ≡ true in
+      let P : Slot → Type 0 = λ s. is_before s.range (slot_at (slots ++ slot ∷ []) k).range ≡ true in
       subst P (sym (slot_old slots slot j j_short))
       (elim (cases_lt k (length slots)) [
         | inl l ↦
-            let Q : Slot → Type 0 = λ s. is_behind (slot_at slots j).range s.range ≡ true in
+            let Q : Slot → Type 0 = λ s. is_before (slot_at slots j).range s.range ≡ true in
             subst Q (sym (slot_old slots slot k l)) (order.order j k before l)
         | inr l ↦
             let e : length slots ≡ k = omega (arith, length-append slots (slot ∷ [])) in
-            let Q : Slot → Type 0 = λ s. is_behind (slot_at slots j).range s.range ≡ true in
+            let Q : Slot → Type 0 = λ s. is_before (slot_at slots j).range s.range ≡ true in
             let R : ℕ → Type 0 = λ n. Q (slot_at (slots ++ slot ∷ []) n) in
             subst R e (subst Q (sym (slot_new slots slot)) (behind j j_short))
       ]);

@@ -1,5 +1,8 @@
 mod PlaceLemmas
 mod StrikeLemmas
+mod RunLemmas
+mod WorkedRuns
+mod SlotRuns
 mod FlatLemmas
 mod PartLemmas
 mod EventLemmas

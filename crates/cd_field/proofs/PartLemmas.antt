@@ -10,7 +10,7 @@ use Rattle.cd_tree.specs.declared.domain.NodeId.{NodeId}
 use Rattle.cd_tree.specs.declared.document.Fault.{Fault}
 use Rattle.cd_tree.specs.Scripts.{strikes_at, struck}
 use Rattle.cd_field.specs.declared.flat_words.Slot.{Slot}
-use Rattle.cd_field.specs.Flat.{is_behind, slot_at, range_at}
+use Rattle.cd_field.specs.Flat.{slot_at, range_at}
 use Rattle.cd_field.proofs.FlatLemmas.{by_test, chosen, other, each_pushed}
 
 or_right : (a b : Bool) → b ≡ true → (a || b) ≡ true
@@ -38,26 +38,22 @@ before_nth r [] i all short = absurd (omega arith)
 before_nth r (s ∷ ranges) zero all short = all.0
 before_nth r (s ∷ ranges) (suc i) all short = before_nth r ranges i all.1 (omega arith)
 
-behind_from : (a b h l : ℕ) → (nat_lt a b || ((a == b) && nat_lt h l)) ≡ true → (nat_lt a b || ((a == b) && nat_le h l)) ≡ true
-behind_from a b h l e = grind (arith, nat_tests)
-
-pub behind_nth : (ranges : List Range) (i j : ℕ) → IsOrdered ranges → i < j → j < length ranges → is_behind (range_at ranges i) (range_at ranges j) ≡ true
+pub behind_nth : (ranges : List Range) (i j : ℕ) → IsOrdered ranges → i < j → j < length ranges → is_before (range_at ranges i) (range_at ranges j) ≡ true
 behind_nth [] i j order before short = absurd (omega arith)
 behind_nth (r ∷ ranges) zero zero order before short = absurd (omega arith)
 behind_nth (r ∷ ranges) zero (suc j) order before short =
-    let s : Range = range_at ranges j in
-    behind_from r.region s.region r.high s.low (before_nth r ranges j order.1 (omega arith))
+    before_nth r ranges j order.1 (omega arith)
 behind_nth (r ∷ ranges) (suc i) zero order before short = absurd (omega arith)
 behind_nth (r ∷ ranges) (suc i) (suc j) order before short = behind_nth ranges i j order.2 (omega arith) (omega arith)
 
 -- with the slot of a range pushed, all slots end before the ranges still to come
 pub slots_behind : (ranges : List Range) (i : ℕ) (slots later : List Slot) (first : ℕ) → IsOrdered ranges → i < length ranges
-    → ((j : ℕ) → i ≤ j → j < length ranges → (k : ℕ) → k < length slots → is_behind (slot_at slots k).range (range_at ranges j) ≡ true)
+    → ((j : ℕ) → i ≤ j → j < length ranges → (k : ℕ) → k < length slots → is_before (slot_at slots k).range (range_at ranges j) ≡ true)
     → later ≡ slots ++ record { range = range_at ranges i; first = first } ∷ []
-    → (j : ℕ) → i + 1 ≤ j → j < length ranges → (k : ℕ) → k < length later → is_behind (slot_at later k).range (range_at ranges j) ≡ true
+    → (j : ℕ) → i + 1 ≤ j → j < length ranges → (k : ℕ) → k < length later → is_before (slot_at later k).range (range_at ranges j) ≡ true
 slots_behind ranges i slots later first order here before is j ahead short =
     let slot : Slot = record { range = range_at ranges i; first = first } in
-    let P : Slot → Type 0 = λ s. is_behind s.range (range_at ranges j) ≡ true in
+    let P : Slot → Type 0 = λ s. is_before s.range (range_at ranges j) ≡ true in
     let Q : List Slot → Type 0 = λ v. (k : ℕ) → k < length v → P (slot_at v k) in
     subst Q (sym is) (each_pushed P slots slot (before j (omega arith) short) (behind_nth ranges i j order (omega arith) short))
 
@@ -69,11 +65,11 @@ slots_below slots later slot number below region is =
     let Q : List Slot → Type 0 = λ v. (k : ℕ) → k < length v → P (slot_at v k) in
     subst Q (sym is) (each_pushed P slots slot (λ k short. omega (arith, below k short)) (omega (arith, region)))
 
-lower_behind : (a b h l : ℕ) → a < b → (nat_lt a b || ((a == b) && nat_le h l)) ≡ true
+lower_behind : (a b h l : ℕ) → a < b → (nat_lt a b || ((a == b) && nat_lt h l)) ≡ true
 lower_behind a b h l below = grind (arith, nat_tests)
 
 pub region_behind : (slots : List Slot) (r : Range) → ((k : ℕ) → k < length slots → (slot_at slots k).range.region < r.region)
-    → (k : ℕ) → k < length slots → is_behind (slot_at slots k).range r ≡ true
+    → (k : ℕ) → k < length slots → is_before (slot_at slots k).range r ≡ true
 region_behind slots r below k short =
     let s : Range = (slot_at slots k).range in lower_behind s.region r.region s.high r.low (below k short)
 

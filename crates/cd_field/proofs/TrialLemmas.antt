@@ -7,12 +7,12 @@ use Rattle.cd_tree.specs.declared.domain.NodeId.{NodeId}
 use Rattle.cd_tree.specs.declared.document.Fault.{Fault}
 use Rattle.cd_tree.specs.declared.event.Event.{Event}
 use Rattle.cd_tree.specs.Scripts.{strikes_at, struck, words_struck}
-use Rattle.cd_field.specs.Machine.{Machine, IsPresent, hits_at, reached_point, told}
+use Rattle.cd_field.specs.FieldModel.{FieldModel, IsPresent, hits_at, reached_point, told}
 use Rattle.cd_field.specs.Trials.{board, IsAimed, IsReady}
 use Rattle.cd_field.proofs.FlatLemmas.{by_test}
 
 -- the faults that strike at a point are of the script
-present_struck : (m : Machine) (faults : List Fault) (id : NodeId) (begin point : ℕ)
+present_struck : (m : FieldModel) (faults : List Fault) (id : NodeId) (begin point : ℕ)
     → ((p : Place) → in_ranges board p ≡ true → IsPresent m p) → All IsAimed faults
     → All (λ (f : Fault). IsPresent m f.place) (struck faults id begin point)
 present_struck m [] id begin point each aimed = All-nil (λ (f : Fault). IsPresent m f.place)
@@ -24,7 +24,7 @@ present_struck m (fault ∷ faults) id begin point each aimed =
     (λ t. rw t (All-cons P fault (struck faults id begin point) (each fault.place (All-head IsAimed fault faults aimed)) rest))
     (λ f. rw f rest)
 
-pub hits_present : (m : Machine) (point : ℕ) → IsReady m → All (λ (f : Fault). IsPresent m f.place) (hits_at m point)
+pub hits_present : (m : FieldModel) (point : ℕ) → IsReady m → All (λ (f : Fault). IsPresent m f.place) (hits_at m point)
 hits_present m point ready = present_struck m m.script m.node m.begin point ready.each ready.aimed
 
 -- a strike leaves a word where there was one
@@ -34,17 +34,17 @@ some_struck (fault ∷ faults) w p some =
     some_struck faults (struck_word w fault.place fault.mask) p
     (by_test (same_place fault.place p) (λ t. rw t refl) (λ f. rw f some))
 
-pub ready_reached : (m later : Machine) (point : ℕ) → later ≡ reached_point m point → IsReady m → IsReady later
+pub ready_reached : (m later : FieldModel) (point : ℕ) → later ≡ reached_point m point → IsReady m → IsReady later
 ready_reached m later point is ready =
-    let P : Machine → Type 0 = λ v. IsReady v in
+    let P : FieldModel → Type 0 = λ v. IsReady v in
     subst P (sym is) (record {
       each = λ p h. record { known = some_struck (hits_at m point) m.words p (ready.each p h).known; here = (ready.each p h).here };
       aimed = ready.aimed;
     })
 
-pub ready_told : (m later : Machine) (event : Event) → later ≡ told m event → IsReady m → IsReady later
+pub ready_told : (m later : FieldModel) (event : Event) → later ≡ told m event → IsReady m → IsReady later
 ready_told m later event is ready =
-    let P : Machine → Type 0 = λ v. IsReady v in
+    let P : FieldModel → Type 0 = λ v. IsReady v in
     subst P (sym is) (record {
       each = λ p h. record { known = (ready.each p h).known; here = (ready.each p h).here };
       aimed = ready.aimed;

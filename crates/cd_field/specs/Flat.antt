@@ -1,7 +1,8 @@
 -- Words in one flat list, beside it whether each is away, with a table of the ranges whose words they are; and the machine that is made of them.
-use Rattle.std.specs.Prelude.{◌≡◌, ℕ, ◌+◌, ◌-◌, ◌<◌, ◌≤◌, Bool, true, false, ◌&&◌, ◌||◌, nat_lt, nat_le, ◌==◌, List, [], ◌∷◌, length, Option, None, Some, slice_get, slice_index_or, if◌then◌else◌}
+use Rattle.std.specs.Prelude.{◌≡◌, ℕ, ◌+◌, ◌-◌, ◌<◌, ◌≤◌, Bool, true, false, List, [], ◌∷◌, length, Option, None, Some, slice_get, slice_index_or, if◌then◌else◌}
 use Rattle.cd_base.specs.declared.place.Place.{Place}
 use Rattle.cd_base.specs.declared.place.Range.{Range}
+use Rattle.cd_base.specs.Places.{is_before}
 use Rattle.cd_base.specs.Words.{Words, PlaceSet, in_range}
 use Rattle.cd_tree.specs.Operations.{length_of}
 use Rattle.cd_field.specs.declared.flat_words.Slot.{Slot}
@@ -35,14 +36,10 @@ no_slot = record { range = record { region = 0; low = 0; high = 0 }; first = 0 }
 abbrev pub slot_at : List Slot → ℕ → Slot
 slot_at slots k = slice_index_or slots k no_slot
 
--- a range ends before another begins
-abbrev pub is_behind : Range → Range → Bool
-is_behind r s = nat_lt r.region s.region || ((r.region == s.region) && nat_le r.high s.low)
-
--- a table in order: each range ends before all that come after it
+-- a table in order: each range ends before all that come after it, and touches none
 pub record IsInOrder (slots : List Slot) : Type 0 where
   pub proper : (k : ℕ) → k < length slots → (slot_at slots k).range.low ≤ (slot_at slots k).range.high
-  pub order : (j k : ℕ) → j < k → k < length slots → is_behind (slot_at slots j).range (slot_at slots k).range ≡ true
+  pub order : (j k : ℕ) → j < k → k < length slots → is_before (slot_at slots j).range (slot_at slots k).range ≡ true
 
 -- each slot has words of its own, and all are there
 pub record HasRoom (slots : List Slot) (count : ℕ) : Type 0 where

@@ -2,9 +2,9 @@
 use Rattle.cd_field.specs.declared.script_field.ScriptField.{ScriptField}
 use Rattle.cd_field.specs.Flat.{flat_words, flat_lost}
 use Rattle.cd_field.specs.EventLists.{events_of}
-use Rattle.cd_field.specs.Machine.{Machine}
+use Rattle.cd_field.specs.FieldModel.{FieldModel}
 
-abbrev pub flat_machine : ScriptField → Machine
+abbrev pub flat_machine : ScriptField → FieldModel
 flat_machine field = record {
   words = flat_words field.words.slots.items field.words.words.items;
   lost = flat_lost field.words.slots.items field.words.away.items;

@@ -1,4 +1,4 @@
-pub mod Machine
+pub mod FieldModel
 pub mod Maps
 pub mod Flat
 pub mod EventLists

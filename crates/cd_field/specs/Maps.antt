@@ -9,7 +9,7 @@ use Rattle.std.specs.BTreeSet.{BTreeSet}
 use Rattle.cd_base.specs.declared.place.Place.{Place}
 use Rattle.cd_base.specs.Words.{Words, PlaceSet}
 use Rattle.cd_field.specs.declared.map_field.MapField.{MapField}
-use Rattle.cd_field.specs.Machine.{Machine}
+use Rattle.cd_field.specs.FieldModel.{FieldModel}
 
 -- the order of places: by region, then by index
 abbrev pub place_cmp : Place → Place → Ordering
@@ -24,7 +24,7 @@ abbrev pub places_of : BTreeSet Place → PlaceSet
 places_of places = λ p. sorted.contains place_cmp places p
 
 -- the machine that a field over maps is
-abbrev pub machine_of : MapField → Machine
+abbrev pub machine_of : MapField → FieldModel
 machine_of field = record {
   words = words_of field.words;
   lost = places_of field.lost;

@@ -4,7 +4,7 @@ use Rattle.cd_base.specs.declared.place.Place.{Place}
 use Rattle.cd_base.specs.declared.place.Range.{Range}
 use Rattle.cd_base.specs.Words.{in_ranges}
 use Rattle.cd_tree.specs.declared.document.Fault.{Fault}
-use Rattle.cd_field.specs.Machine.{Machine, IsPresent}
+use Rattle.cd_field.specs.FieldModel.{FieldModel, IsPresent}
 
 -- four words and two
 abbrev pub board : List Range
@@ -15,6 +15,6 @@ abbrev pub IsAimed : Fault → Type 0
 IsAimed fault = in_ranges board fault.place ≡ true
 
 -- the board's words are all present, and the script strikes on the board
-pub record IsReady (m : Machine) : Type 0 where
+pub record IsReady (m : FieldModel) : Type 0 where
   pub each : (p : Place) → in_ranges board p ≡ true → IsPresent m p
   pub aimed : All IsAimed m.script

@@ -1,97 +1,144 @@
-ghost use Rattle.std.specs.Prelude.{◌≡◌, ◌≢◌, ◌⊎◌, Some, IsSome, true, OnOk, IfOk, All, slice_get};
+ghost use Rattle.std.specs.Prelude.{◌≡◌, ◌≢◌, ◌⊎◌, [], ◌∷◌, Some, IsSome, true, OnOk, IfOk, All, length, slice_get};
+ghost use Rattle.cd_base.specs.Words.{in_range};
+ghost use Rattle.cd_tree.specs.Operations.{length_of};
 ghost use Rattle.cd_tree.specs.declared.event.Event.TheVariants.{Saved, Fell, Lapsed, Refilled, Halted, Found, Complete};
-ghost use Rattle.cd_field.specs.Machine.{Machine, IsPresent, ArePresent, CanAbsorb, hits_at, loaded, told, begun, wrote, refilled_word, reached_point, gone_up, part_of, without, absorbed};
+ghost use Rattle.cd_field.specs.FieldModel.{FieldModel, IsPresent, ArePresent, CanAbsorb, hits_at, loaded, told, begun, wrote, refilled_word, words_in, wrote_run, refilled_run, reached_point, gone_up, part_of, without, absorbed};
 
-use cd_base::{NoMemory, Place, Places};
+use cd_base::{NoMemory, Place, Places, Range};
 use cd_tree::{Event, Kept, Kinds, NodeId, Regions, Script};
 
 /// A machine: words at places, a record, notes of faults, and the script by which it strikes its own words.
 ///
 /// No call fails but for want of memory, and after it the machine may only be dropped.
 pub trait Field: Sized + Send + Drop {
-    ghost state: { Self → Machine };
+    ghost model: { Self → FieldModel };
 
     /// Makes the regions' words, with nothing lost, no record and no notes.
     fn load(&mut self, regions: &Regions, script: &Script) -> Result<(), NoMemory>
-        ensures { OnOk result (state self.new ≡ loaded regions.now script.now) };
+        ensures { OnOk result (model self.new ≡ loaded regions.now script.now) };
 
     /// A domain begins.
     fn begin(&mut self, node: NodeId, number: u64) -> Result<(), NoMemory>
-        ensures { OnOk result (state self.new ≡ begun (state self.old) node number) };
+        ensures { OnOk result (model self.new ≡ begun (model self.old) node number) };
 
     /// The word of a place. It takes no memory.
     fn read(&self, place: Place) -> u64
-        requires { IsPresent (state self.now) place }
-        ensures { (state self.now).words place ≡ Some result };
+        requires { IsPresent (model self.now) place }
+        ensures { (model self.now).words place ≡ Some result };
 
     /// Changes the word of a place. It takes no memory.
     fn write(&mut self, place: Place, word: u64)
-        requires { IsPresent (state self.old) place }
-        ensures { state self.new ≡ wrote (state self.old) place word };
+        requires { IsPresent (model self.old) place }
+        ensures { model self.new ≡ wrote (model self.old) place word };
 
     /// Puts a word back, so that its place is present. It takes no memory.
     fn refill(&mut self, place: Place, word: u64)
-        requires { IsSome ((state self.old).words place) }
-        ensures { state self.new ≡ refilled_word (state self.old) place word };
+        requires { IsSome ((model self.old).words place) }
+        ensures { model self.new ≡ refilled_word (model self.old) place word };
+
+    /// The words of a range in order, into a list of that length. A range may be empty. It takes no memory.
+    fn read_run(&self, range: Range, words: &mut [u64])
+        requires present { ArePresent (model self.now) (range ∷ []) }
+        requires long { length words.old ≡ length_of range }
+        ensures { words.new ≡ words_in (model self.now).words range }
+    {
+        for index in range.low..range.high {
+            words[(index - range.low) as usize] = self.read(Place {
+                region: range.region,
+                index,
+            });
+        }
+    }
+
+    /// Changes the words of a range to those of a list of that length. A range may be empty. It takes no memory.
+    fn write_run(&mut self, range: Range, words: &[u64])
+        requires present { ArePresent (model self.old) (range ∷ []) }
+        requires long { length words.now ≡ length_of range }
+        ensures { model self.new ≡ wrote_run (model self.old) range words.now }
+    {
+        for index in range.low..range.high {
+            let place = Place {
+                region: range.region,
+                index,
+            };
+            self.write(place, words[(index - range.low) as usize]);
+        }
+    }
+
+    /// Puts the words of a range back from a list of that length, so that its places are present. A range may be empty.
+    /// It takes no memory.
+    fn refill_run(&mut self, range: Range, words: &[u64])
+        requires known { (p : _) → in_range range p ≡ true → IsSome ((model self.old).words p) }
+        requires long { length words.now ≡ length_of range }
+        ensures { model self.new ≡ refilled_run (model self.old) range words.now }
+    {
+        for index in range.low..range.high {
+            let place = Place {
+                region: range.region,
+                index,
+            };
+            self.refill(place, words[(index - range.low) as usize]);
+        }
+    }
 
     /// The domain in hand comes to a point: the script's faults for it strike, in order.
     fn reached(&mut self, point: u32) -> Result<(), NoMemory>
-        requires { All (λ fault. IsPresent (state self.old) fault.place) (hits_at (state self.old) point) }
-        ensures { OnOk result (state self.new ≡ reached_point (state self.old) point) };
+        requires { All (λ fault. IsPresent (model self.old) fault.place) (hits_at (model self.old) point) }
+        ensures { OnOk result (model self.new ≡ reached_point (model self.old) point) };
 
     /// The kinds of the faults that struck since the last begin, and those that members leaked. It takes no memory.
     fn notes(&self) -> Kinds
-        ensures { result ≡ (state self.now).notes };
+        ensures { result ≡ (model self.now).notes };
 
     /// An entry was preserved.
     fn saved(&mut self, entry: u32, how: Kept) -> Result<(), NoMemory>
-        ensures { OnOk result (state self.new ≡ told (state self.old) (Saved (state self.old).node entry how)) };
+        ensures { OnOk result (model self.new ≡ told (model self.old) (Saved (model self.old).node entry how)) };
 
     /// The word of a place is not the one that its entry's pattern gives.
     fn fell(&mut self, entry: u32, place: Place, wanted: u64) -> Result<(), NoMemory>
-        requires present { IsPresent (state self.old) place }
-        requires differs { (state self.old).words place ≢ Some wanted }
-        ensures { OnOk result ((found : _) → (state self.old).words place ≡ Some found → state self.new ≡ told (state self.old) (Fell (state self.old).node entry place wanted found)) };
+        requires present { IsPresent (model self.old) place }
+        requires differs { (model self.old).words place ≢ Some wanted }
+        ensures { OnOk result ((found : _) → (model self.old).words place ≡ Some found → model self.new ≡ told (model self.old) (Fell (model self.old).node entry place wanted found)) };
 
     /// A shared copy was gone.
     fn lapsed(&mut self, entry: u32, seen: u64, found: u64) -> Result<(), NoMemory>
         requires { seen ≢ found }
-        ensures { OnOk result (state self.new ≡ told (state self.old) (Lapsed (state self.old).node entry seen found)) };
+        ensures { OnOk result (model self.new ≡ told (model self.old) (Lapsed (model self.old).node entry seen found)) };
 
     /// An entry's words were put back.
     fn refilled(&mut self, entry: u32) -> Result<(), NoMemory>
-        ensures { OnOk result (state self.new ≡ told (state self.old) (Refilled (state self.old).node entry)) };
+        ensures { OnOk result (model self.new ≡ told (model self.old) (Refilled (model self.old).node entry)) };
 
     /// Halting kinds end the try.
     fn halted(&mut self, kinds: Kinds) -> Result<(), NoMemory>
-        ensures { OnOk result (state self.new ≡ told (state self.old) (Halted (state self.old).node kinds)) };
+        ensures { OnOk result (model self.new ≡ told (model self.old) (Halted (model self.old).node kinds)) };
 
     /// The kinds that detection found.
     fn found(&mut self, kinds: Kinds) -> Result<(), NoMemory>
-        ensures { OnOk result (state self.new ≡ told (state self.old) (Found (state self.old).node kinds)) };
+        ensures { OnOk result (model self.new ≡ told (model self.old) (Found (model self.old).node kinds)) };
 
     /// The domain completes.
     fn complete(&mut self) -> Result<(), NoMemory>
-        ensures { OnOk result (state self.new ≡ told (state self.old) (Complete (state self.old).node)) };
+        ensures { OnOk result (model self.new ≡ told (model self.old) (Complete (model self.old).node)) };
 
     /// The domain escalates; its notes vanish.
     fn escalate(&mut self) -> Result<(), NoMemory>
-        ensures { OnOk result (state self.new ≡ gone_up (state self.old)) };
+        ensures { OnOk result (model self.new ≡ gone_up (model self.old)) };
 
     /// Carves out a part that has the words of these places alone. The places that it writes are lost here until it is
     /// absorbed with commit, or they are refilled.
     fn carve(&mut self, reads: &Places, writes: &Places) -> Result<Self, NoMemory>
-        requires reads { ArePresent (state self.old) reads.now }
-        requires writes { ArePresent (state self.old) writes.now }
-        ensures part { IfOk result (λ part. state part ≡ part_of (state self.old) reads.now writes.now) }
-        ensures rest { OnOk result (state self.new ≡ without (state self.old) writes.now) };
+        requires reads { ArePresent (model self.old) reads.now }
+        requires writes { ArePresent (model self.old) writes.now }
+        ensures part { IfOk result (λ part. model part ≡ part_of (model self.old) reads.now writes.now) }
+        ensures rest { OnOk result (model self.new ≡ without (model self.old) writes.now) };
 
     /// Takes a part back: its record always; with commit also its carved writes and its notes.
     fn absorb(&mut self, child: Self, commit: bool) -> Result<(), NoMemory>
-        requires { CanAbsorb (state self.old) (state child) commit }
-        ensures { OnOk result (state self.new ≡ absorbed (state self.old) (state child) commit) };
+        requires { CanAbsorb (model self.old) (model child) commit }
+        ensures { OnOk result (model self.new ≡ absorbed (model self.old) (model child) commit) };
 
     /// The `k`-th event of the record, from 0; none at the record's length or above. It takes no memory.
     fn event(&self, k: u64) -> Option<Event>
-        ensures { result ≡ slice_get (state self.now).events k };
+        ensures { result ≡ slice_get (model self.now).events k };
 }

@@ -1,10 +1,10 @@
 // Flat words of regions and of lists of ranges: loaded, carved out, away, and taken back.
 ghost use Rattle.std.specs.Prelude.{◌≡◌, ◌≢◌, ◌<◌, ◌≤◌, ◌^◌, ◌&&◌, ◌||◌, ◌++◌, ◌+◌, ◌∷◌, [], ◌==◌, true, false, nat_lt, length, None, Some, IsSome, All, OnOk, IfOk, if◌then◌else◌};
 ghost use Rattle.cd_base.specs.Words.{pattern_word, struck_word, in_range, in_ranges};
-ghost use Rattle.cd_base.specs.Places.{IsOrdered};
+ghost use Rattle.cd_base.specs.Places.{IsOrdered, is_before};
 ghost use Rattle.cd_tree.specs.Meaning.{initial, written};
 ghost use Rattle.cd_tree.specs.Scripts.{struck, kinds_of, words_struck};
-ghost use Rattle.cd_field.specs.Flat.{flat_words, flat_lost, is_behind, slot_at};
+ghost use Rattle.cd_field.specs.Flat.{flat_words, flat_lost, slot_at};
 
 use crate::flat_words::FlatWords;
 use crate::words::strikes;
@@ -77,7 +77,7 @@ pub(crate) fn flat_part(
 
 fn add_part(part: &mut FlatWords, whole: &FlatWords, range: Range) -> Result<(), NoMemory>
     requires proper { range.low ≤ range.high }
-    requires behind { (k : _) → k < length part.old.slots.items → is_behind (slot_at part.old.slots.items k).range range ≡ true }
+    requires behind { (k : _) → k < length part.old.slots.items → is_before (slot_at part.old.slots.items k).range range ≡ true }
     requires known { (q : _) → in_range range q ≡ true → IsSome (flat_words whole.now.slots.items whole.now.words.items q) }
     ensures words { OnOk result ((q : _) → flat_words part.new.slots.items part.new.words.items q ≡ (if in_range range q then flat_words whole.now.slots.items whole.now.words.items q else flat_words part.old.slots.items part.old.words.items q)) }
     ensures lost { OnOk result ((q : _) → flat_lost part.old.slots.items part.old.away.items q ≡ false → flat_lost part.new.slots.items part.new.away.items q ≡ false) }

@@ -1,8 +1,12 @@
 // Words in one flat list: a table of ranges in order says where the word of a place stands.
-ghost use Rattle.std.specs.Prelude.{◌≡◌, ◌++◌, ◌∷◌, [], ◌<◌, ◌≤◌, ◌^◌, true, replicate, ◌&&◌, ◌||◌, ◌==◌, false, nat_lt, nat_le, None, Some, IsSome, length, OnOk, IfOk, if◌then◌else◌};
+ghost use Rattle.std.specs.List.{splice};
+ghost use Rattle.std.specs.Prelude.{◌≡◌, ◌+◌, ◌++◌, take, drop, ◌∷◌, [], ◌<◌, ◌≤◌, ◌^◌, true, replicate, ◌&&◌, ◌||◌, ◌==◌, false, nat_lt, nat_le, None, Some, IsSome, length, OnOk, IfOk, if◌then◌else◌};
+ghost use Rattle.cd_base.specs.Places.{is_before};
 ghost use Rattle.cd_base.specs.Words.{same_place, in_range};
 ghost use Rattle.cd_tree.specs.Meaning.{written};
-ghost use Rattle.cd_field.specs.Flat.{index_of, flat_words, flat_lost, is_behind, slot_at, HasRoom, IsInOrder, IsWhole};
+ghost use Rattle.cd_tree.specs.Operations.{length_of};
+ghost use Rattle.cd_field.specs.FieldModel.{laid, words_in};
+ghost use Rattle.cd_field.specs.Flat.{index_of, flat_words, flat_lost, slot_at, HasRoom, IsInOrder, IsWhole};
 
 use cd_base::{NoMemory, Place, Range};
 use std::alloc::Global;
@@ -83,6 +87,73 @@ impl FlatWords {
         self.words[i] = word;
     }
 
+    /// Where the words of a range of places that have one begin. They follow each other.
+    #[inline(always)]
+    fn run_index(&self, range: Range) -> usize
+        requires full { range.low < range.high }
+        requires known { (q : _) → in_range range q ≡ true → IsSome (flat_words self.now.slots.items self.now.words.items q) }
+        ensures stands { index_of self.now.slots.items (record { region = range.region; index = range.low }) ≡ Some result }
+        ensures within { (result + length_of range ≤ length self.now.words.items) × (result + length_of range ≤ length self.now.away.items) }
+    {
+        self.index(Place {
+            region: range.region,
+            index: range.low,
+        })
+    }
+
+    /// The words of a range of places that have one, in order.
+    #[inline(always)]
+    pub(crate) fn read_run(&self, range: Range, words: &mut [u64])
+        requires known { (q : _) → in_range range q ≡ true → IsSome (flat_words self.now.slots.items self.now.words.items q) }
+        requires long { length words.old ≡ length_of range }
+        ensures { words.new ≡ words_in (flat_words self.now.slots.items self.now.words.items) range }
+    {
+        if range.low < range.high {
+            let first = self.run_index(range);
+            words.copy_from_slice(items(&self.words, first, words.len()));
+        }
+    }
+
+    /// Changes the words of a range of places that have one. Whether they are away stays.
+    #[inline(always)]
+    pub(crate) fn write_run(&mut self, range: Range, words: &[u64])
+        requires known { (q : _) → in_range range q ≡ true → IsSome (flat_words self.old.slots.items self.old.words.items q) }
+        requires long { length words.now ≡ length_of range }
+        ensures words { (q : _) → flat_words self.new.slots.items self.new.words.items q ≡ laid (flat_words self.old.slots.items self.old.words.items) range words.now q }
+        ensures lost { (q : _) → flat_lost self.new.slots.items self.new.away.items q ≡ flat_lost self.old.slots.items self.old.away.items q }
+        ensures slots { self.new.slots ≡ self.old.slots }
+    {
+        if range.low < range.high {
+            let first = self.run_index(range);
+            lay(&mut self.words, first, words);
+        }
+    }
+
+    /// The words of a range of places that have one are here.
+    fn clear_run(&mut self, range: Range)
+        requires { (q : _) → in_range range q ≡ true → IsSome (flat_words self.old.slots.items self.old.words.items q) }
+        ensures words { (q : _) → flat_words self.new.slots.items self.new.words.items q ≡ flat_words self.old.slots.items self.old.words.items q }
+        ensures lost { (q : _) → flat_lost self.new.slots.items self.new.away.items q ≡ (if in_range range q then false else flat_lost self.old.slots.items self.old.away.items q) }
+        ensures slots { self.new.slots ≡ self.old.slots }
+    {
+        if range.low < range.high {
+            let first = self.run_index(range);
+            clear(&mut self.away, first, (range.high - range.low) as usize);
+        }
+    }
+
+    /// Changes the words of a range of places that have one. They are here then.
+    pub(crate) fn put_back_run(&mut self, range: Range, words: &[u64])
+        requires known { (q : _) → in_range range q ≡ true → IsSome (flat_words self.old.slots.items self.old.words.items q) }
+        requires long { length words.now ≡ length_of range }
+        ensures words { (q : _) → flat_words self.new.slots.items self.new.words.items q ≡ laid (flat_words self.old.slots.items self.old.words.items) range words.now q }
+        ensures lost { (q : _) → flat_lost self.new.slots.items self.new.away.items q ≡ (if in_range range q then false else flat_lost self.old.slots.items self.old.away.items q) }
+        ensures slots { self.new.slots ≡ self.old.slots }
+    {
+        self.clear_run(range);
+        self.write_run(range, words);
+    }
+
     /// Says whether the word of a place is away.
     fn set_away(&mut self, place: Place, lost: bool)
         requires { IsSome (flat_words self.old.slots.items self.old.words.items place) }
@@ -108,7 +179,7 @@ impl FlatWords {
     /// Adds the words of a range behind all others. They are 0, and none is away.
     pub(crate) fn open(&mut self, range: Range) -> Result<(), NoMemory>
         requires proper { range.low ≤ range.high }
-        requires behind { (k : _) → k < length self.old.slots.items → is_behind (slot_at self.old.slots.items k).range range ≡ true }
+        requires behind { (k : _) → k < length self.old.slots.items → is_before (slot_at self.old.slots.items k).range range ≡ true }
         ensures words { OnOk result ((q : _) → flat_words self.new.slots.items self.new.words.items q ≡ (if in_range range q then Some 0 else flat_words self.old.slots.items self.old.words.items q)) }
         ensures lost { OnOk result ((q : _) → flat_lost self.new.slots.items self.new.away.items q ≡ (if in_range range q then false else flat_lost self.old.slots.items self.old.away.items q)) }
         ensures slots { OnOk result (self.new.slots.items ≡ self.old.slots.items ++ record { range = range; first = length self.old.words.items } ∷ []) }
@@ -180,6 +251,33 @@ impl FlatWords {
             );
         }
     }
+}
+
+// So many words from one on.
+#[inline(always)]
+fn items(words: &[u64], first: usize, count: usize) -> &[u64]
+    requires { first + count ≤ length words.now }
+    ensures { result.now ≡ take count (drop first words.now) }
+{
+    &words[first..first + count]
+}
+
+// Words laid over others from one on.
+#[inline(always)]
+fn lay(words: &mut Vec<u64>, first: usize, run: &[u64])
+    requires { first + length run.now ≤ length words.old.items }
+    ensures { words.new.items ≡ splice words.old.items first (first + length run.now) run.now }
+{
+    let end = first + run.len();
+    words[first..end].copy_from_slice(run);
+}
+
+// So many flags taken back from one on.
+fn clear(away: &mut Vec<bool>, first: usize, count: usize)
+    requires { first + count ≤ length away.old.items }
+    ensures { away.new.items ≡ splice away.old.items first (first + count) (replicate count false) }
+{
+    away[first..first + count].fill(false);
 }
 
 // Whether a range goes on where so many regions are whole.

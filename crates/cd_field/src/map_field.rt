@@ -1,5 +1,5 @@
 ghost use Rattle.std.specs.Prelude.{◌≡◌, []};
-ghost use Rattle.cd_field.specs.Machine.{loaded};
+ghost use Rattle.cd_field.specs.FieldModel.{loaded};
 ghost use Rattle.cd_field.specs.Maps.{machine_of};
 
 use crate::Field;
@@ -48,7 +48,7 @@ impl MapField {
 impl Field for MapField {
     ghost use Rattle.cd_field.specs.Maps.{machine_of};
 
-    ghost state = { machine_of };
+    ghost model = { machine_of };
 
     fn load(&mut self, regions: &Regions, script: &Script) -> Result<(), NoMemory> {
         let words = first_words(self.alloc, regions.items())?;

@@ -1,5 +1,5 @@
 ghost use Rattle.std.specs.Prelude.{◌≡◌, []};
-ghost use Rattle.cd_field.specs.Machine.{loaded};
+ghost use Rattle.cd_field.specs.FieldModel.{loaded};
 ghost use Rattle.cd_field.specs.FlatMachine.{flat_machine};
 
 use crate::Field;
@@ -45,7 +45,7 @@ impl ScriptField {
 impl Field for ScriptField {
     ghost use Rattle.cd_field.specs.FlatMachine.{flat_machine};
 
-    ghost state = { flat_machine };
+    ghost model = { flat_machine };
 
     fn load(&mut self, regions: &Regions, script: &Script) -> Result<(), NoMemory> {
         let words = first_flat(self.alloc, regions.items())?;
@@ -75,6 +75,18 @@ impl Field for ScriptField {
 
     fn refill(&mut self, place: Place, word: u64) {
         self.words.put_back(place, word);
+    }
+
+    fn read_run(&self, range: Range, words: &mut [u64]) {
+        self.words.read_run(range, words);
+    }
+
+    fn write_run(&mut self, range: Range, words: &[u64]) {
+        self.words.write_run(range, words);
+    }
+
+    fn refill_run(&mut self, range: Range, words: &[u64]) {
+        self.words.put_back_run(range, words);
     }
 
     fn reached(&mut self, point: u32) -> Result<(), NoMemory> {

@@ -1,7 +1,7 @@
 ghost use Rattle.std.specs.Prelude.{◌≡◌, ◌<◌, true, [], ◌∷◌, IsSome, OnOk, IfOk};
 ghost use Rattle.cd_base.specs.Words.{in_ranges};
 ghost use Rattle.cd_tree.specs.Meaning.{initial};
-ghost use Rattle.cd_field.specs.Machine.{ArePresent, IsPresent};
+ghost use Rattle.cd_field.specs.FieldModel.{ArePresent, IsPresent};
 
 use crate::{Field, MapField, ScriptField};
 use cd_base::{Items, Pattern, Place, Places, Range, Text};
@@ -65,7 +65,7 @@ fn one_fault(alloc: Global) -> Result<Script, Fail>
 
 // A fault strikes once, its kind is noted, and the next begin forgets it.
 fn strikes<F: Field>(rt: &impl Abort, field: &mut F, alloc: Global) -> Result<(), Fail>
-    ensures { OnOk result (ArePresent (F.state field.new) (record { region = 0; low = 0; high = 4 } ∷ [])) }
+    ensures { OnOk result (ArePresent (F.model field.new) (record { region = 0; low = 0; high = 4 } ∷ [])) }
 {
     field.load(&two_regions(alloc)?, &one_fault(alloc)?)?;
     field.begin(NodeId(0), 1)?;
@@ -99,7 +99,7 @@ fn strikes<F: Field>(rt: &impl Abort, field: &mut F, alloc: Global) -> Result<()
 
 // Each call that tells something appends its event. Node 0 is in hand.
 fn tells<F: Field>(rt: &impl Abort, field: &mut F) -> Result<(), Fail>
-    requires { IsPresent (F.state field.old) (record { region = 0; index = 3 }) }
+    requires { IsPresent (F.model field.old) (record { region = 0; index = 3 }) }
 {
     let node = NodeId(0);
     let kinds = Kinds::none().with(Kind(1));

@@ -2,7 +2,7 @@
 ghost use Rattle.std.specs.Prelude.{◌≡◌, ◌<◌, ◌+◌, ◌≤◌, true, [], ◌∷◌, All, IsSome, OnOk, IfOk};
 ghost use Rattle.cd_base.specs.Words.{in_range, in_ranges};
 ghost use Rattle.cd_tree.specs.Meaning.{initial};
-ghost use Rattle.cd_field.specs.Machine.{IsPresent};
+ghost use Rattle.cd_field.specs.FieldModel.{IsPresent};
 ghost use Rattle.cd_field.specs.Trials.{board, IsAimed, IsReady};
 
 use crate::{Field, MapField, ScriptField};
@@ -90,7 +90,7 @@ fn five_faults(alloc: Global) -> Result<Script, Fail>
 }
 
 fn load<F: Field>(field: &mut F, alloc: Global) -> Result<(), Fail>
-    ensures { OnOk result (IsReady (F.state field.new)) }
+    ensures { OnOk result (IsReady (F.model field.new)) }
 {
     field.load(&two_regions(alloc)?, &five_faults(alloc)?)?;
     Ok(())
@@ -98,8 +98,8 @@ fn load<F: Field>(field: &mut F, alloc: Global) -> Result<(), Fail>
 
 // A call that changes words.
 fn change<F: Field>(field: &mut F, random: u64) -> Result<(), Fail>
-    requires { IsReady (F.state field.old) }
-    ensures { OnOk result (IsReady (F.state field.new)) }
+    requires { IsReady (F.model field.old) }
+    ensures { OnOk result (IsReady (F.model field.new)) }
 {
     let place = pick_place(random);
     match pick(random, 1 << 40, 4) {
@@ -114,10 +114,32 @@ fn change<F: Field>(field: &mut F, random: u64) -> Result<(), Fail>
     Ok(())
 }
 
+// A call that changes the words of a range of the first region, which may be empty.
+fn change_run<F: Field>(field: &mut F, random: u64) -> Result<(), Fail>
+    requires { IsReady (F.model field.old) }
+    ensures { OnOk result (IsReady (F.model field.new)) }
+{
+    let low = pick(random, 1 << 36, 5) as u32;
+    let high = low + pick(random, 1 << 32, u64::from(5 - low)) as u32;
+    let range = Range {
+        region: 0,
+        low,
+        high,
+    };
+    let words = [random, !random, random / 3, 0];
+    let words = &words[..(high - low) as usize];
+    if pick(random, 1 << 40, 2) == 0 {
+        field.write_run(range, words);
+    } else {
+        field.refill_run(range, words);
+    }
+    Ok(())
+}
+
 // A call that tells of a domain's end, or of its kinds.
 fn tell_end<F: Field>(field: &mut F, random: u64) -> Result<(), Fail>
-    requires { IsReady (F.state field.old) }
-    ensures { OnOk result (IsReady (F.state field.new)) }
+    requires { IsReady (F.model field.old) }
+    ensures { OnOk result (IsReady (F.model field.new)) }
 {
     let kinds = field.notes().with(Kind(pick(random, 1 << 32, 5) as u8));
     match pick(random, 1 << 40, 4) {
@@ -131,8 +153,8 @@ fn tell_end<F: Field>(field: &mut F, random: u64) -> Result<(), Fail>
 
 // A call that tells of an entry.
 fn tell_entry<F: Field>(field: &mut F, random: u64) -> Result<(), Fail>
-    requires { IsReady (F.state field.old) }
-    ensures { OnOk result (IsReady (F.state field.new)) }
+    requires { IsReady (F.model field.old) }
+    ensures { OnOk result (IsReady (F.model field.new)) }
 {
     let place = pick_place(random);
     let entry = pick(random, 1 << 32, 3) as u32;
@@ -163,8 +185,8 @@ fn ranges(alloc: Global, low: u32, high: u32) -> Result<Places, Fail>
 // A part is carved out to write one word, writes it, tells of it, and comes back, with commit or without; then the word
 // is put back.
 fn hand_over<F: Field>(field: &mut F, alloc: Global, random: u64) -> Result<(), Fail>
-    requires { IsReady (F.state field.old) }
-    ensures { OnOk result (IsReady (F.state field.new)) }
+    requires { IsReady (F.model field.old) }
+    ensures { OnOk result (IsReady (F.model field.new)) }
 {
     let low = pick(random, 1 << 40, 3) as u32;
     let index = pick(random, 1 << 36, 4) as u32;
@@ -184,55 +206,49 @@ fn hand_over<F: Field>(field: &mut F, alloc: Global, random: u64) -> Result<(), 
 }
 
 fn step<F: Field>(field: &mut F, alloc: Global, random: u64) -> Result<(), Fail>
-    requires { IsReady (F.state field.old) }
-    ensures { OnOk result (IsReady (F.state field.new)) }
+    requires { IsReady (F.model field.old) }
+    ensures { OnOk result (IsReady (F.model field.new)) }
 {
     match pick(random, 1 << 56, 8) {
         0 => hand_over(field, alloc, random)?,
         1 => tell_entry(field, random)?,
         2 => tell_end(field, random)?,
+        3 => change_run(field, random)?,
         _ => change(field, random)?,
     }
     Ok(())
 }
 
-// The six words.
-fn look<F: Field>(field: &F) -> [u64; 6]
-    requires { IsReady (F.state field.now) }
+// The four words and the two.
+fn look<F: Field>(field: &F) -> ([u64; 4], [u64; 2])
+    requires { IsReady (F.model field.now) }
 {
-    [
-        field.read(Place {
+    let mut four = [0; 4];
+    field.read_run(
+        Range {
             region: 0,
-            index: 0,
-        }),
-        field.read(Place {
-            region: 0,
-            index: 1,
-        }),
-        field.read(Place {
-            region: 0,
-            index: 2,
-        }),
-        field.read(Place {
-            region: 0,
-            index: 3,
-        }),
-        field.read(Place {
+            low: 0,
+            high: 4,
+        },
+        &mut four,
+    );
+    let mut two = [0; 2];
+    field.read_run(
+        Range {
             region: 1,
-            index: 0,
-        }),
-        field.read(Place {
-            region: 1,
-            index: 1,
-        }),
-    ]
+            low: 0,
+            high: 2,
+        },
+        &mut two,
+    );
+    (four, two)
 }
 
 // Whether two machines give the same: the words, the notes, and the events from a number on, up to one that neither has.
 // A step tells at most three. Gives the number of events.
 fn agree<F: Field, G: Field>(rt: &impl Abort, field: &F, other: &G, from: u64) -> u64
-    requires one { IsReady (F.state field.now) }
-    requires both { IsReady (G.state other.now) }
+    requires one { IsReady (F.model field.now) }
+    requires both { IsReady (G.model other.now) }
 {
     assert_eq!(rt; look(field), look(other), "words after {from} events");
     assert_eq!(rt; field.notes(), other.notes(), "notes after {from} events");

@@ -12,8 +12,8 @@ use Rattle.cd_tree.specs.Domains.{Node, node_of}
 use Rattle.cd_tree.specs.Meaning.{node_reads}
 use Rattle.cd_foot.specs.declared.footprints.Foot.{Foot}
 use Rattle.cd_foot.specs.declared.gathered.Side.TheVariants.{Reads, Writes}
-use Rattle.cd_foot.specs.Feet.{AreFeet}
-use Rattle.cd_foot.specs.Gathered.{IsSide, IsSmallFoot, AreFeetFrom}
+use Rattle.cd_foot.specs.Feet.{IsFoot, AreFeet}
+use Rattle.cd_foot.specs.Gathered.{IsSide, AreFeetFrom}
 
 slice_get-set_same : {X : Type 0} (xs : List X) (i : ℕ) (y : X) → i < length xs → slice_get (set xs i y) i ≡ Some y
 slice_get-set_same [] i y within = absurd (omega arith)
@@ -28,27 +28,21 @@ slice_get-set_other (x ∷ xs) (suc i) zero y other = refl
 slice_get-set_other (x ∷ xs) (suc i) (suc j) y other = slice_get-set_other xs i j y (λ same. other (ap suc same))
 
 -- both sets and their union
-pub small_foot : (domains : List Domain) (d : Node) (reads writes copy reach : List Range)
-    → IsSide Reads domains d reads → IsSide Writes domains d writes → copy ≡ reads
-    → ((p : Place) → in_ranges reach p ≡ (in_ranges copy p || in_ranges writes p))
-    → IsSmallFoot domains d (record { reads = reads; writes = writes; reach = reach })
-small_foot domains d reads writes copy reach one other same both = record {
-  sets = record {
-    reads = one.places;
-    writes = other.places;
-    reach = λ p. both p ∙ ap (λ (rs : List Range). in_ranges rs p || in_ranges writes p) same ∙ ap (λ (b : Bool). b || in_ranges writes p) (one.places p) ∙ ap (λ (b : Bool). node_reads d p || b) (other.places p);
-  };
-  few_reads = one.few;
-  few_writes = other.few;
+pub is_foot : (d : Node) (reads writes copy reach : List Range) → IsSide Reads d reads → IsSide Writes d writes → copy ≡ reads
+    → ((p : Place) → in_ranges reach p ≡ (in_ranges copy p || in_ranges writes p)) → IsFoot d (record { reads = reads; writes = writes; reach = reach })
+is_foot d reads writes copy reach one other same both = record {
+  reads = one.places;
+  writes = other.places;
+  reach = λ p. both p ∙ ap (λ (rs : List Range). in_ranges rs p || in_ranges writes p) same ∙ ap (λ (b : Bool). b || in_ranges writes p) (one.places p) ∙ ap (λ (b : Bool). node_reads d p || b) (other.places p);
 }
 
 -- one domain more
 pub feet_more : (at next : ℕ) (id : NodeId) (domains : List Domain) (feet new : List Foot) (foot : Foot) → id.0 ≡ at → next ≡ at + 1
     → next ≤ length domains → AreFeetFrom next domains feet → new ≡ set feet at foot
-    → ((d : Node) → node_of domains id ≡ Some d → IsSmallFoot domains d foot) → AreFeetFrom at domains new
-feet_more at next id domains feet new foot here step within behind is small =
+    → ((d : Node) → node_of domains id ≡ Some d → IsFoot d foot) → AreFeetFrom at domains new
+feet_more at next id domains feet new foot here step within behind is foot_is =
     let room : at < length feet = (let size = behind.size in omega (arith, size)) in
-    let each : (k : NodeId) (d : Node) (f : Foot) → at ≤ k.0 → node_of domains k ≡ Some d → slice_get (set feet at foot) k.0 ≡ Some f → IsSmallFoot domains d f =
+    let each : (k : NodeId) (d : Node) (f : Foot) → at ≤ k.0 → node_of domains k ≡ Some d → slice_get (set feet at foot) k.0 ≡ Some f → IsFoot d f =
     λ k d f from found there.
     elim (cases_eq k.0 at) [
       | inl same ↦
@@ -56,7 +50,7 @@ feet_more at next id domains feet new foot here step within behind is small =
           let one : k ≡ id = ap make (same ∙ sym here) in
           let mine : slice_get (set feet at foot) k.0 ≡ Some foot = ap (slice_get (set feet at foot)) same ∙ slice_get-set_same feet at foot room in
           let equal : foot ≡ f = cc in
-          subst (λ (g : Foot). IsSmallFoot domains d g) equal (small d (ap (node_of domains) (sym one) ∙ found)))
+          subst (λ (g : Foot). IsFoot d g) equal (foot_is d (ap (node_of domains) (sym one) ∙ found)))
       | inr other ↦
           behind.each k d f (omega arith) found (sym (slice_get-set_other feet at k.0 foot other) ∙ there)
     ] in
@@ -76,5 +70,5 @@ feet_none domains feet size = record {
 pub feet_all : (domains : List Domain) (feet : List Foot) → AreFeetFrom 0 domains feet → AreFeet domains feet
 feet_all domains feet all = record {
   size = all.size;
-  each = λ id d foot found there. (all.each id d foot (omega arith) found there).sets;
+  each = λ id d foot found there. all.each id d foot (omega arith) found there;
 }

@@ -1,7 +1,8 @@
 pub mod FeetLemmas
 pub mod GatherLemmas
 pub mod OverlapLemmas
-pub mod TreeLemmas
 pub mod SideLemmas
 pub mod OneAnswer
+pub mod BoundedLemmas
+pub mod ThereLemmas
 mod Worked

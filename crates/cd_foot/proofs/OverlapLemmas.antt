@@ -14,7 +14,7 @@ use Rattle.cd_tree.specs.declared.refusal.Refusal.{Refusal}
 use Rattle.cd_tree.specs.declared.refusal.Refusal.TheVariants.{Overlap}
 use Rattle.cd_tree.specs.Domains.{Node, Body, Members, node, stop, run, group, no_more, member, put_first, members_by, body_by, nodes_from, node_of, number_of, body_of, root_of}
 use Rattle.cd_tree.specs.Meaning.{node_reach, node_writes, clash, DoNotClash, IsApartFrom, MembersApart, GroupsApart, IsDisjoint}
-use Rattle.cd_tree.specs.Outlines.{Outline, IsTree}
+use Rattle.cd_tree.specs.TreeModel.{TreeModel, IsTree}
 use Rattle.cd_tree.specs.Laws.{NestedViewFollows, OfEach, DisjointByDomains}
 use Rattle.cd_tree.specs.Refusals.{FirstOf}
 use Rattle.cd_foot.specs.declared.footprints.Foot.{Foot}
@@ -225,10 +225,10 @@ none_each : (ds : List Node) → ((k : ℕ) (d : Node) → slice_get ds k ≡ So
 none_each [] each = refl
 none_each (d ∷ ds) each = (groups_apart_first (body_of d) (each 0 d refl), none_each ds (λ k e is. each (suc k) e is))
 
-pub disjoint_where_none : (tree : Outline) → IsTree tree → DisjointByDomains → FirstOverlap tree.domains None → IsDisjoint (root_of tree.domains)
+pub disjoint_where_none : (tree : TreeModel) → IsTree tree → DisjointByDomains → FirstOverlap tree.domains None → IsDisjoint (root_of tree.domains)
 disjoint_where_none tree is law none = (law tree is).0 (λ id d found. each_none (nodes_from 0 tree.domains) none id.0 d found)
 
-pub not_disjoint_where_some : (tree : Outline) → IsTree tree → DisjointByDomains → (r : Refusal) → FirstOverlap tree.domains (Some r)
+pub not_disjoint_where_some : (tree : TreeModel) → IsTree tree → DisjointByDomains → (r : Refusal) → FirstOverlap tree.domains (Some r)
     → IsDisjoint (root_of tree.domains) → ⊥
 not_disjoint_where_some tree is law r some disjoint =
     let each : OfEach tree (λ d. GroupsApart (body_of d)) = (law tree is).1 disjoint in
@@ -308,7 +308,7 @@ item_out find left item rest whole r ahead says leads =
     (sibling_pairs-left find left item rest ahead) says leads
 
 -- what a program's domain says of itself, by the items seen
-says_of : (tree : Outline) → NestedViewFollows → IsTree tree → (id : NodeId) (domain : Domain) (items : List Item) (answer : Option Refusal)
+says_of : (tree : TreeModel) → NestedViewFollows → IsTree tree → (id : NodeId) (domain : Domain) (items : List Item) (answer : Option Refusal)
     → slice_get tree.domains id.0 ≡ Some domain → items ≡ domain.items
     → FirstOf OverlapOf (sibling_pairs (body_by (node_of tree.domains) items)) answer
     → (d : Node) × (node_of tree.domains id ≡ Some d) × OfDomain d answer
@@ -323,7 +323,7 @@ ahead_found xs k x is =
     drop_more xs k x (slice_get_within xs k x is) ∙ ap (λ y. y ∷ drop (k + 1) xs) (get_or_from_slice_get xs k x x is)
 
 -- one domain more
-pub domain_on : (tree : Outline) → NestedViewFollows → IsTree tree → (id : NodeId) (domain : Domain) (items : List Item)
+pub domain_on : (tree : TreeModel) → NestedViewFollows → IsTree tree → (id : NodeId) (domain : Domain) (items : List Item)
     → slice_get tree.domains id.0 ≡ Some domain → items ≡ domain.items
     → FirstOf OverlapOf (sibling_pairs (body_by (node_of tree.domains) items)) None
     → Leads OfDomain (drop id.0 (nodes_from 0 tree.domains)) (nodes_from 0 tree.domains)
@@ -334,7 +334,7 @@ domain_on tree views is id domain items there same says leads =
     leads_on OfDomain (drop id.0 nodes) (one.0 ∷ []) (drop (id.0 + 1) nodes) nodes (ahead_found nodes id.0 one.0 one.1) (one.2, refl) leads
 
 -- one domain refuses
-pub domain_out : (tree : Outline) → NestedViewFollows → IsTree tree → (id : NodeId) (domain : Domain) (items : List Item) (r : Refusal)
+pub domain_out : (tree : TreeModel) → NestedViewFollows → IsTree tree → (id : NodeId) (domain : Domain) (items : List Item) (r : Refusal)
     → slice_get tree.domains id.0 ≡ Some domain → items ≡ domain.items
     → FirstOf OverlapOf (sibling_pairs (body_by (node_of tree.domains) items)) (Some r)
     → Leads OfDomain (drop id.0 (nodes_from 0 tree.domains)) (nodes_from 0 tree.domains)

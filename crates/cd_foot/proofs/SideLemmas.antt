@@ -1,10 +1,8 @@
--- What is gathered for a domain has its places, and is no more than the domain and those below it have.
-use Rattle.std.proofs.Common.{◌≡◌, ℕ, zero, suc, ◌+◌, ◌*◌, ◌<◌, ◌≤◌, Bool, true, false, ◌||◌, List, [], ◌∷◌, ◌++◌, length, map, Option, None, Some, slice_get, sum_by, All, IsSomeAnd, refl, sym, ap, subst, ◌∙◌, arith, length-append}
+-- What is gathered for a domain has its places.
+use Rattle.std.proofs.Common.{◌≡◌, ℕ, zero, suc, ◌+◌, ◌<◌, Bool, true, false, ◌||◌, List, [], ◌∷◌, ◌++◌, length, map, Option, None, Some, slice_get, All, IsSomeAnd, refl, sym, ap, subst, ◌∙◌, arith}
 use Rattle.std.specs.List.{flat_map}
 use Rattle.std.specs.Option.{option_map_or}
-use Rattle.std.proofs.lemmas.List.Sums.{sum_by-append, sum_by-cons}
 use Rattle.std.proofs.lemmas.List.Elements.{All-nil, All-cons}
-use Rattle.std.proofs.lemmas.List.{length-map}
 use Rattle.std.proofs.lemmas.Option.{slice_get_within, slice_get-get_or}
 use Rattle.cd_base.specs.declared.place.Place.{Place}
 use Rattle.cd_base.specs.declared.place.Range.{Range}
@@ -16,17 +14,16 @@ use Rattle.cd_tree.specs.declared.domain.Item.TheVariants.{Run, Group}
 use Rattle.cd_tree.specs.declared.domain.Domain.{Domain}
 use Rattle.cd_tree.specs.declared.kinds.KindName.{KindName}
 use Rattle.cd_tree.specs.declared.operation.Op.{Op}
-use Rattle.cd_tree.specs.declared.operation.Op.TheVariants.{Fill, Copy, Add, Sub, Mul, Axpy, Scan, Sum, Dot, Max, Stencil, Spmv}
 use Rattle.cd_tree.specs.Operations.{op_writes, IsFull}
 use Rattle.cd_tree.specs.Meaning.{in_entries, body_reads, member_reads, body_writes, member_writes}
-use Rattle.cd_tree.specs.Domains.{Node, Body, Members, node, stop, run, group, no_more, member, put_first, members_by, body_by, node_of, node_numbers, body_numbers, member_numbers}
-use Rattle.cd_tree.specs.Outlines.{Outline, IsTree, NamesChildren, FitsItems, FitsDomain, EachFits}
+use Rattle.cd_tree.specs.Domains.{Node, Body, Members, node, stop, run, group, no_more, member, put_first, members_by, body_by, node_of}
+use Rattle.cd_tree.specs.TreeModel.{TreeModel, IsTree, NamesChildren, FitsItems, FitsDomain, EachFits}
 use Rattle.cd_tree.specs.Laws.{NestedViewFollows}
 use Rattle.cd_foot.specs.declared.footprints.Foot.{Foot}
 use Rattle.cd_foot.specs.declared.gathered.Side.{Side}
 use Rattle.cd_foot.specs.declared.gathered.Side.TheVariants.{Reads, Writes}
-use Rattle.cd_foot.specs.Gathered.{op_side, foot_side, entry_side, side_at, item_side, gathered, IsItemOf, node_side, own_at, ranges_below, IsSide, IsSmallFoot, AreFeetFrom}
-use Rattle.cd_foot.proofs.TreeLemmas.{few_below}
+use Rattle.cd_foot.specs.Feet.{IsFoot}
+use Rattle.cd_foot.specs.Gathered.{op_side, foot_side, entry_side, side_at, item_side, gathered, IsItemOf, node_side, IsSide, AreFeetFrom}
 
 -- ---- what a program says of one of its domains
 
@@ -41,7 +38,7 @@ fits_at kinds all at (first ∷ domains) (suc k) domain (here, fits) is =
     let sum : at + suc k ≡ suc at + k = omega arith in
     rw sum (fits_at kinds all (suc at) domains k domain fits is)
 
-pub fits : (tree : Outline) → IsTree tree → (id : NodeId) (domain : Domain) → slice_get tree.domains id.0 ≡ Some domain
+pub fits : (tree : TreeModel) → IsTree tree → (id : NodeId) (domain : Domain) → slice_get tree.domains id.0 ≡ Some domain
     → FitsDomain tree.kinds tree.domains id.0 domain
 fits tree is id domain there =
     let sum : 0 + id.0 ≡ id.0 = omega arith in
@@ -69,13 +66,13 @@ gatherable domains at (Run op ∷ items) (full, shape, fits) =
 gatherable domains at (Group ids ∷ items) (some, few, named, fits) =
     All-cons (IsItemOf (length domains)) (Group ids) items (names_among domains at ids named) (gatherable domains at items fits)
 
-pub gatherable_items : (tree : Outline) → IsTree tree → (id : NodeId) (domain : Domain) → slice_get tree.domains id.0 ≡ Some domain
+pub gatherable_items : (tree : TreeModel) → IsTree tree → (id : NodeId) (domain : Domain) → slice_get tree.domains id.0 ≡ Some domain
     → (count : ℕ) → count ≡ length tree.domains → All (IsItemOf count) domain.items
 gatherable_items tree is id domain there count same =
     let Q : ℕ → Type 0 = λ n. All (IsItemOf n) domain.items in
     subst Q (sym same) (gatherable tree.domains id.0 domain.items (fits tree is id domain there).items)
 
-pub full_ranges : (tree : Outline) → IsTree tree → (id : NodeId) (domain : Domain) → slice_get tree.domains id.0 ≡ Some domain
+pub full_ranges : (tree : TreeModel) → IsTree tree → (id : NodeId) (domain : Domain) → slice_get tree.domains id.0 ≡ Some domain
     → All (λ (entry : Entry). IsFull entry.range) domain.entries
 full_ranges tree is id domain there = (fits tree is id domain there).ranges
 
@@ -83,12 +80,12 @@ full_ranges tree is id domain there = (fits tree is id domain there).ranges
 
 abbrev Member : List Domain → List Foot → NodeId → Type 0
 Member domains feet id =
-    (d : Node) × (foot : Foot) × (node_of domains id ≡ Some d) × (slice_get feet id.0 ≡ Some foot) × IsSmallFoot domains d foot
+    (d : Node) × (foot : Foot) × (node_of domains id ≡ Some d) × (slice_get feet id.0 ≡ Some foot) × IsFoot d foot
 
 no_foot : Foot
 no_foot = record { reads = []; writes = []; reach = [] }
 
-member_found : (tree : Outline) → NestedViewFollows → IsTree tree → (at : ℕ) (feet : List Foot) → AreFeetFrom (at + 1) tree.domains feet
+member_found : (tree : TreeModel) → NestedViewFollows → IsTree tree → (at : ℕ) (feet : List Foot) → AreFeetFrom (at + 1) tree.domains feet
     → (id : NodeId) → at < id.0 → IsChild at (slice_get tree.domains id.0) → Member tree.domains feet id
 member_found tree views is at feet behind id above child =
     let one = child_in at (slice_get tree.domains id.0) child in
@@ -125,15 +122,10 @@ abbrev member_side : Side → Members → PlaceSet
 member_side Reads ms = member_reads ms
 member_side Writes ms = member_writes ms
 
-foot_places : (side : Side) (domains : List Domain) (d : Node) (foot : Foot) (p : Place) → IsSmallFoot domains d foot
+foot_places : (side : Side) (d : Node) (foot : Foot) (p : Place) → IsFoot d foot
     → in_ranges (foot_side side foot) p ≡ node_side side d p
-foot_places Reads domains d foot p small = small.sets.reads p
-foot_places Writes domains d foot p small = small.sets.writes p
-
-foot_few : (side : Side) (domains : List Domain) (d : Node) (foot : Foot) → IsSmallFoot domains d foot
-    → length (foot_side side foot) ≤ ranges_below domains d
-foot_few Reads domains d foot small = small.few_reads
-foot_few Writes domains d foot small = small.few_writes
+foot_places Reads d foot p is = is.reads p
+foot_places Writes d foot p is = is.writes p
 
 member_side-member : (side : Side) (first : Node) (rest : Members) (p : Place)
     → member_side side (member first rest) p ≡ (node_side side first p || member_side side rest p)
@@ -174,7 +166,7 @@ members_by-found : (find : NodeId → Option Node) (id : NodeId) (ids : List Nod
     → members_by find (id ∷ ids) ≡ member d (members_by find ids)
 members_by-found find id ids d found = ap (λ (o : Option Node). put_first o (members_by find ids)) found
 
-members_places : (side : Side) (tree : Outline) → NestedViewFollows → IsTree tree → (at : ℕ) (feet : List Foot) → AreFeetFrom (at + 1) tree.domains feet
+members_places : (side : Side) (tree : TreeModel) → NestedViewFollows → IsTree tree → (at : ℕ) (feet : List Foot) → AreFeetFrom (at + 1) tree.domains feet
     → (ids : List NodeId) (p : Place) → NamesChildren tree.domains at ids
     → in_ranges (flat_map (side_at side feet) ids) p ≡ member_side side (members_by (node_of tree.domains) ids) p
 members_places side tree views is at feet behind [] p named = none-of-members side p
@@ -182,13 +174,13 @@ members_places side tree views is at feet behind (id ∷ ids) p (above, child, n
     let found = member_found tree views is at feet behind id above child in
     let find = node_of tree.domains in
     let here : in_ranges (side_at side feet id) p ≡ node_side side found.0 p =
-    ap (λ (rs : List Range). in_ranges rs p) (side_at-found side feet id found.1 found.3) ∙ foot_places side tree.domains found.0 found.1 p found.4 in
+    ap (λ (rs : List Range). in_ranges rs p) (side_at-found side feet id found.1 found.3) ∙ foot_places side found.0 found.1 p found.4 in
     both_parts (side_at side feet id) (flat_map (side_at side feet) ids) p _ _ here
     (members_places side tree views is at feet behind ids p named)
     ∙ sym (member_side-member side found.0 (members_by find ids) p)
     ∙ ap (λ (ms : Members). member_side side ms p) (sym (members_by-found find id ids found.0 found.2))
 
-items_places : (side : Side) (tree : Outline) → NestedViewFollows → IsTree tree → (at : ℕ) (feet : List Foot) → AreFeetFrom (at + 1) tree.domains feet
+items_places : (side : Side) (tree : TreeModel) → NestedViewFollows → IsTree tree → (at : ℕ) (feet : List Foot) → AreFeetFrom (at + 1) tree.domains feet
     → (items : List Item) (p : Place) → FitsItems tree.domains at items
     → in_ranges (flat_map (item_side side feet) items) p ≡ body_side side (body_by (node_of tree.domains) items) p
 items_places side tree views is at feet behind [] p fits = none-of-body side p
@@ -200,63 +192,9 @@ items_places side tree views is at feet behind (Group ids ∷ items) p (some, fe
     (members_places side tree views is at feet behind ids p named) (items_places side tree views is at feet behind items p fits)
     ∙ sym (body_side-group side (members_by (node_of tree.domains) ids) (body_by (node_of tree.domains) items) p)
 
--- ---- how many
-
-op_few : (side : Side) (op : Op) → length (op_side side op) ≤ 4
-op_few Writes op = omega arith
-op_few Reads (Fill d k) = omega arith
-op_few Reads (Copy d x) = omega arith
-op_few Reads (Add d x z) = omega arith
-op_few Reads (Sub d x z) = omega arith
-op_few Reads (Mul d x z) = omega arith
-op_few Reads (Axpy d k x) = omega arith
-op_few Reads (Scan d x) = omega arith
-op_few Reads (Sum d x) = omega arith
-op_few Reads (Dot d x z) = omega arith
-op_few Reads (Max d x) = omega arith
-op_few Reads (Stencil d a b e x) = omega arith
-op_few Reads (Spmv d s e v x) = omega arith
-
-members_few : (side : Side) (tree : Outline) → NestedViewFollows → IsTree tree → (at : ℕ) (feet : List Foot) → AreFeetFrom (at + 1) tree.domains feet
-    → (ids : List NodeId) → NamesChildren tree.domains at ids
-    → length (flat_map (side_at side feet) ids) ≤ sum_by (own_at tree.domains) (member_numbers (members_by (node_of tree.domains) ids))
-members_few side tree views is at feet behind [] named = omega arith
-members_few side tree views is at feet behind (id ∷ ids) (above, child, named) =
-    let own : ℕ → ℕ = own_at tree.domains in
-    let found = member_found tree views is at feet behind id above child in
-    let find = node_of tree.domains in
-    let here : length (side_at side feet id) ≤ ranges_below tree.domains found.0 =
-    (let few = foot_few side tree.domains found.0 found.1 found.4 in
-    omega (arith, few, ap (length {A = Range}) (side_at-found side feet id found.1 found.3))) in
-    let later = members_few side tree views is at feet behind ids named in
-    let all : sum_by own (member_numbers (members_by find (id ∷ ids))) ≡ ranges_below tree.domains found.0 + sum_by own (member_numbers (members_by find ids)) =
-    ap (λ (ms : Members). sum_by own (member_numbers ms)) (members_by-found find id ids found.0 found.2)
-    ∙ sum_by-append own (node_numbers found.0) (member_numbers (members_by find ids)) in
-    omega (arith, here, later, all, length-append (side_at side feet id) (flat_map (side_at side feet) ids))
-
-items_few : (side : Side) (tree : Outline) → NestedViewFollows → IsTree tree → (at : ℕ) (feet : List Foot) → AreFeetFrom (at + 1) tree.domains feet
-    → (items : List Item) → FitsItems tree.domains at items
-    → length (flat_map (item_side side feet) items) ≤ 4 * length items + sum_by (own_at tree.domains) (body_numbers (body_by (node_of tree.domains) items))
-items_few side tree views is at feet behind [] fits = omega arith
-items_few side tree views is at feet behind (Run op ∷ items) (full, shape, fits) =
-    omega (arith, op_few side op, items_few side tree views is at feet behind items fits, length-append (op_side side op) (flat_map (item_side side feet) items))
-items_few side tree views is at feet behind (Group ids ∷ items) (some, few, named, fits) =
-    let find = node_of tree.domains in
-    omega (
-      arith,
-      members_few side tree views is at feet behind ids named,
-      items_few side tree views is at feet behind items fits,
-      length-append (flat_map (side_at side feet) ids) (flat_map (item_side side feet) items),
-      sum_by-append (own_at tree.domains) (member_numbers (members_by find ids)) (body_numbers (body_by find items)),
-    )
-
-entries_few : (side : Side) (entries : List Entry) → length (entry_side side entries) ≤ length entries
-entries_few Reads entries = omega (arith, length-map entries (λ (entry : Entry). entry.range))
-entries_few Writes entries = omega arith
-
 -- ---- a domain
 
-pub gathered_places : (side : Side) (tree : Outline) → NestedViewFollows → IsTree tree → (feet : List Foot) (id : NodeId) (domain : Domain)
+pub gathered_places : (side : Side) (tree : TreeModel) → NestedViewFollows → IsTree tree → (feet : List Foot) (id : NodeId) (domain : Domain)
     → AreFeetFrom (id.0 + 1) tree.domains feet → slice_get tree.domains id.0 ≡ Some domain → (p : Place)
     → in_ranges (gathered side feet domain) p ≡ node_side side (node id domain (body_by (node_of tree.domains) domain.items)) p
 gathered_places side tree views is feet id domain behind there p =
@@ -264,42 +202,14 @@ gathered_places side tree views is feet id domain behind there p =
     (items_places side tree views is id.0 feet behind domain.items p (fits tree is id domain there).items)
     ∙ sym (node_side-node side id domain (body_by (node_of tree.domains) domain.items) p)
 
-pub gathered_few : (side : Side) (tree : Outline) → NestedViewFollows → IsTree tree → (feet : List Foot) (id : NodeId) (domain : Domain)
-    → AreFeetFrom (id.0 + 1) tree.domains feet → slice_get tree.domains id.0 ≡ Some domain
-    → length (gathered side feet domain) ≤ ranges_below tree.domains (node id domain (body_by (node_of tree.domains) domain.items))
-gathered_few side tree views is feet id domain behind there =
-    let own : ℕ → ℕ = own_at tree.domains in
-    let size : Domain → ℕ = λ d. length d.entries + 4 * length d.items in
-    let here : own id.0 ≡ size domain = ap (λ (o : Option Domain). option_map_or size o 0) there in
-    let body : Body = body_by (node_of tree.domains) domain.items in
-    let own_ranges = entries_few side domain.entries in
-    let items = items_few side tree views is id.0 feet behind domain.items (fits tree is id domain there).items in
-    omega (
-      arith,
-      here,
-      own_ranges,
-      items,
-      length-append (entry_side side domain.entries) (flat_map (item_side side feet) domain.items),
-      sum_by-cons own id.0 (body_numbers body),
-    )
-
-pub gathered_small : (side : Side) (tree : Outline) → NestedViewFollows → IsTree tree → (feet : List Foot) (id : NodeId) (domain : Domain)
-    → AreFeetFrom (id.0 + 1) tree.domains feet → slice_get tree.domains id.0 ≡ Some domain
-    → length (gathered side feet domain) ≤ 81920
-gathered_small side tree views is feet id domain behind there =
-    let few = gathered_few side tree views is feet id domain behind there in
-    let all = few_below tree views is id _ (views tree is id domain there) in
-    omega (arith, few, all)
-
 -- the set made of what was gathered
-pub is_side : (side : Side) (tree : Outline) → NestedViewFollows → IsTree tree → (feet : List Foot) (id : NodeId) (domain : Domain)
+pub is_side : (side : Side) (tree : TreeModel) → NestedViewFollows → IsTree tree → (feet : List Foot) (id : NodeId) (domain : Domain)
     → AreFeetFrom (id.0 + 1) tree.domains feet → slice_get tree.domains id.0 ≡ Some domain
-    → (ranges set : List Range) → ranges ≡ gathered side feet domain → ((p : Place) → in_ranges set p ≡ in_ranges ranges p) → length set ≤ length ranges
-    → (d : Node) → node_of tree.domains id ≡ Some d → IsSide side tree.domains d set
-is_side side tree views is feet id domain behind there ranges set made same few d found =
+    → (ranges set : List Range) → ranges ≡ gathered side feet domain → ((p : Place) → in_ranges set p ≡ in_ranges ranges p)
+    → (d : Node) → node_of tree.domains id ≡ Some d → IsSide side d set
+is_side side tree views is feet id domain behind there ranges set made same d found =
     let view : node_of tree.domains id ≡ Some (node id domain (body_by (node_of tree.domains) domain.items)) = views tree is id domain there in
     let one : node id domain (body_by (node_of tree.domains) domain.items) ≡ d = cc in
-    subst (λ (e : Node). IsSide side tree.domains e set) one (record {
+    subst (λ (e : Node). IsSide side e set) one (record {
       places = λ p. same p ∙ ap (λ (rs : List Range). in_ranges rs p) made ∙ gathered_places side tree views is feet id domain behind there p;
-      few = (let most = gathered_few side tree views is feet id domain behind there in omega (arith, most, few, ap (length {A = Range}) made));
     })

@@ -12,10 +12,10 @@ use Rattle.cd_tree.specs.declared.domain.Entry.{Entry}
 use Rattle.cd_tree.specs.declared.domain.Domain.{Domain}
 use Rattle.cd_tree.specs.declared.operation.Op.TheVariants.{Fill, Axpy}
 use Rattle.cd_tree.specs.declared.refusal.Refusal.TheVariants.{Overlap}
-use Rattle.cd_tree.specs.Domains.{Node, node, stop, run, group, no_more, member, first_of_all, nodes_from}
+use Rattle.cd_tree.specs.Domains.{Node, node, stop, run, group, no_more, member}
 use Rattle.cd_tree.specs.Meaning.{clash}
 use Rattle.cd_foot.specs.declared.gathered.Side.TheVariants.{Reads, Writes}
-use Rattle.cd_foot.specs.Gathered.{gathered, ranges_below}
+use Rattle.cd_foot.specs.Gathered.{gathered}
 use Rattle.cd_foot.specs.Overlaps.{sibling_pairs, FirstOverlap}
 
 abbrev number : ℕ → NodeId
@@ -64,10 +64,6 @@ root_gathers = refl
 
 root_writes : gathered Writes [] (domain (copied y ∷ copied z ∷ []) (Run (Axpy y 3 z) ∷ [])) ≡ y ∷ []
 root_writes = refl
-
--- 2 entries and an item; 1 and 1; 2 and 1
-ranges_of_clashing : ranges_below clashing (first_of_all (nodes_from 0 clashing)) ≡ 17
-ranges_of_clashing = refl
 
 abbrev one : Node
 one = node (number 1) (domain (copied y ∷ []) (Run (Fill y 7) ∷ [])) (run (Fill y 7) stop)

@@ -1,5 +1,5 @@
--- The ranges that a footprint is made from: a domain's own, and those of its members' footprints; and how many there are.
-use Rattle.std.specs.Prelude.{◌≡◌, ℕ, ◌+◌, ◌*◌, ◌<◌, ◌≤◌, List, [], ◌∷◌, ◌++◌, length, map, All, Some, slice_get, sum_by}
+-- The ranges that a footprint is made from: a domain's own, and those of its members' footprints.
+use Rattle.std.specs.Prelude.{◌≡◌, ℕ, ◌<◌, ◌≤◌, List, [], ◌∷◌, ◌++◌, length, map, All, Some, slice_get}
 use Rattle.std.specs.Option.{option_map_or}
 use Rattle.std.specs.List.{flat_map}
 use Rattle.cd_base.specs.declared.place.Place.{Place}
@@ -12,7 +12,7 @@ use Rattle.cd_tree.specs.declared.domain.Item.TheVariants.{Run, Group}
 use Rattle.cd_tree.specs.declared.domain.Domain.{Domain}
 use Rattle.cd_tree.specs.declared.operation.Op.{Op}
 use Rattle.cd_tree.specs.Operations.{op_reads, op_writes, IsFull}
-use Rattle.cd_tree.specs.Domains.{Node, node_of, node_numbers}
+use Rattle.cd_tree.specs.Domains.{Node, node_of}
 use Rattle.cd_tree.specs.Meaning.{node_reads, node_writes}
 use Rattle.cd_foot.specs.declared.footprints.Foot.{Foot}
 use Rattle.cd_foot.specs.declared.gathered.Side.{Side}
@@ -57,26 +57,11 @@ abbrev pub node_side : Side → Node → PlaceSet
 node_side Reads d = node_reads d
 node_side Writes d = node_writes d
 
--- the most ranges that a domain has of its own on one side, by its number
-abbrev pub own_at : List Domain → ℕ → ℕ
-own_at domains n = option_map_or (λ domain. length domain.entries + 4 * length domain.items) (slice_get domains n) 0
-
--- and with the domains below it
-abbrev pub ranges_below : List Domain → Node → ℕ
-ranges_below domains d = sum_by (own_at domains) (node_numbers d)
-
--- a set that has the places of a domain on one side, and no more ranges than the domain and those below it
-pub record IsSide (side : Side) (domains : List Domain) (d : Node) (set : List Range) : Type 0 where
+-- a set that has the places of a domain on one side
+pub record IsSide (side : Side) (d : Node) (set : List Range) : Type 0 where
   pub places : (p : Place) → in_ranges set p ≡ node_side side d p
-  pub few : length set ≤ ranges_below domains d
-
--- a footprint with no more ranges than its domain and those below it have
-pub record IsSmallFoot (domains : List Domain) (d : Node) (foot : Foot) : Type 0 where
-  pub sets : IsFoot d foot
-  pub few_reads : length foot.reads ≤ ranges_below domains d
-  pub few_writes : length foot.writes ≤ ranges_below domains d
 
 -- one for each domain from `at` on
 pub record AreFeetFrom (at : ℕ) (domains : List Domain) (feet : List Foot) : Type 0 where
   pub size : length feet ≡ length domains
-  pub each : (id : NodeId) (d : Node) (foot : Foot) → at ≤ id.0 → node_of domains id ≡ Some d → slice_get feet id.0 ≡ Some foot → IsSmallFoot domains d foot
+  pub each : (id : NodeId) (d : Node) (foot : Foot) → at ≤ id.0 → node_of domains id ≡ Some d → slice_get feet id.0 ≡ Some foot → IsFoot d foot

@@ -1,3 +1,4 @@
+pub mod Bounded
 pub mod Feet
 pub mod Gathered
 pub mod Laws

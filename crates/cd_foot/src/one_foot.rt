@@ -1,8 +1,9 @@
-ghost use Rattle.std.specs.Prelude.{◌≡◌, ◌<◌, ◌+◌, ◌^◌, length, Some, IfOk};
-ghost use Rattle.cd_tree.specs.Outlines.{IsTree};
+ghost use Rattle.std.specs.Prelude.{◌≡◌, ◌<◌, ◌+◌, length, Some, IfOk};
+ghost use Rattle.cd_tree.specs.TreeModel.{IsTree};
 ghost use Rattle.cd_tree.specs.Domains.{node_of};
 ghost use Rattle.cd_tree.specs.Laws.{NestedViewFollows};
-ghost use Rattle.cd_foot.specs.Gathered.{IsSide, IsSmallFoot, AreFeetFrom};
+ghost use Rattle.cd_foot.specs.Feet.{IsFoot};
+ghost use Rattle.cd_foot.specs.Gathered.{IsSide, AreFeetFrom};
 
 use crate::Foot;
 use crate::gathered::{Side, gathered};
@@ -36,7 +37,7 @@ pub(crate) fn foot_of(
     requires views { NestedViewFollows }
     requires node { node.0 < length tree.now.domains }
     requires behind { AreFeetFrom (node.0 + 1) tree.now.domains feet.now }
-    ensures { IfOk result (λ foot. (d : _) → node_of tree.now.domains node ≡ Some d → IsSmallFoot tree.now.domains d foot) }
+    ensures { IfOk result (λ foot. (d : _) → node_of tree.now.domains node ≡ Some d → IsFoot d foot) }
 {
     let reads = side_of(alloc, Side::Reads, tree, node, feet)?;
     let writes = side_of(alloc, Side::Writes, tree, node, feet)?;
@@ -61,8 +62,7 @@ fn side_of(
     requires views { NestedViewFollows }
     requires node { node.0 < length tree.now.domains }
     requires behind { AreFeetFrom (node.0 + 1) tree.now.domains feet.now }
-    ensures side { IfOk result (λ set. (d : _) → node_of tree.now.domains node ≡ Some d → IsSide side tree.now.domains d set) }
-    ensures small { IfOk result (λ set. length set < 2 ^ 31) }
+    ensures { IfOk result (λ set. (d : _) → node_of tree.now.domains node ≡ Some d → IsSide side d set) }
 {
     let domain = tree.node(node);
     let ranges = gathered(alloc, side, domain, feet)?;

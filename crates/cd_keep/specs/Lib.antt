@@ -1,5 +1,5 @@
-pub mod Notes
-pub mod Shown
-pub mod Rows
+pub mod GoneNoteModel
+pub mod PassModel
+pub mod LayerModel
 pub mod Layers
 pub mod Arcs

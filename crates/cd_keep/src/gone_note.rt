@@ -11,9 +11,9 @@ pub struct GoneNote {
 
 impl Model for GoneNote {
     ghost use Rattle.std.specs.Prelude.{ℕ, ◌≢◌};
-    ghost use Rattle.cd_keep.specs.Notes.{Note};
+    ghost use Rattle.cd_keep.specs.GoneNoteModel.{GoneNoteModel};
 
-    ghost Value = { Note };
+    ghost Value = { GoneNoteModel };
 
     ghost view = { λ note. record { seen = note.seen; found = note.found } };
 

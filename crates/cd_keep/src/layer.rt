@@ -1,7 +1,7 @@
 // A layer of a pass: pieces of words in the order in which they were kept, and how often the pass holds each. More may be
 // put last until a pass is split off. From then on the pieces stand behind a shared pointer, and stay.
-ghost use Rattle.std.specs.Prelude.{◌≡◌, ◌+◌, ◌-◌, ◌<◌, ◌^◌, ◌∷◌, ◌++◌, [], true, Some, IsSome, length, slice_get, unwrap_or, IfOk, OnOk, OnErr};
-ghost use Rattle.cd_keep.specs.Rows.{piece_in, count_in, empty_row, pushed, counted, unheld, IsPlace};
+ghost use Rattle.std.specs.Prelude.{◌≡◌, ◌+◌, ◌-◌, ◌<◌, ◌^◌, ◌∷◌, ◌++◌, [], Some, IsSome, IsTrue, ◌↔◌, length, unwrap_or, IfOk, OnOk, OnErr};
+ghost use Rattle.cd_keep.specs.LayerModel.{CanGrow, piece_in, count_in, empty_layer, pushed, counted, unheld};
 
 use crate::pieces::{Pieces, list, put_last, share};
 use cd_base::{Items, NoMemory};
@@ -10,88 +10,83 @@ use std::marker::Model;
 
 #[derive(Drop)]
 pub(crate) struct Layer {
-    first: u64,
     pieces: Pieces,
     holds: Vec<u32>,
 }
 
 impl Model for Layer {
-    ghost use Rattle.std.specs.Prelude.{◌≡◌, ◌≤◌, ◌^◌, length};
-    ghost use Rattle.cd_keep.specs.Rows.{Row};
+    ghost use Rattle.std.specs.Prelude.{◌≡◌, length};
+    ghost use Rattle.cd_keep.specs.LayerModel.{LayerModel};
 
-    ghost Value = { Row };
+    ghost Value = { LayerModel };
 
     ghost use Rattle.cd_keep.specs.Layers.{pieces_of, are_open};
 
-    ghost view = { λ layer. record { is_open = are_open layer.pieces; first = layer.first; pieces = pieces_of layer.pieces; holds = layer.holds.items } };
+    ghost view = { λ layer. record { is_open = are_open layer.pieces; pieces = pieces_of layer.pieces; holds = layer.holds.items } };
 
-    ghost invariant = { λ layer. (layer.first ≤ 2 ^ 63) × (length layer.holds.items ≡ length (pieces_of layer.pieces)) };
+    ghost invariant = { λ layer. length layer.holds.items ≡ length (pieces_of layer.pieces) };
 }
 
-// No layer's serials begin above this, so that none of them comes to the end of its type.
-const LAST_FIRST: u64 = 1 << 63;
+// How many pieces a layer has at most, so that the number of each is a block.
+const MOST_PIECES: usize = 1 << 32;
 
 impl Layer {
-    // A layer without pieces, whose serials begin at `first` where they may.
-    pub(crate) fn new(alloc: Global, first: u64) -> Layer
-        ensures { result ≡ empty_row result.first }
+    // A layer without pieces.
+    pub(crate) fn new(alloc: Global) -> Layer
+        ensures { result ≡ empty_layer }
     {
         Layer {
-            first: first.min(LAST_FIRST),
             pieces: Pieces::Open(Vec::new(alloc)),
             holds: Vec::new(alloc),
         }
     }
 
-    pub(crate) fn is_open(&self) -> bool
-        ensures { result ≡ self.now.is_open }
+    pub(crate) fn can_grow(&self) -> bool
+        ensures { IsTrue result ↔ CanGrow self.now }
     {
-        matches!(&self.pieces, Pieces::Open(_))
+        self.holds.len() < MOST_PIECES && matches!(&self.pieces, Pieces::Open(_))
     }
 
-    // Puts a piece last, held once, and gives its serial.
-    pub(crate) fn push(&mut self, piece: Items<u64>) -> Result<u64, NoMemory>
-        requires { self.old.is_open ≡ true }
-        ensures serial { IfOk result (λ serial. serial ≡ self.old.first + length self.old.pieces) }
-        ensures row { OnOk result (self.new ≡ pushed self.old piece) }
+    // Puts a piece last, held once, and gives its block.
+    pub(crate) fn push(&mut self, piece: Items<u64>) -> Result<u32, NoMemory>
+        requires { CanGrow self.old }
+        ensures block { IfOk result (λ block. block ≡ length self.old.pieces) }
+        ensures layer { OnOk result (self.new ≡ pushed self.old piece) }
         ensures even { length self.old.holds ≡ length self.old.pieces }
         ensures unchanged { OnErr result (self.new ≡ self.old) }
     {
-        let serial = self.first + self.holds.len() as u64;
+        let block = self.holds.len() as u32;
         self.holds.reserve(1)?;
         put_last(&mut self.pieces, piece)?;
         self.holds.push_reserved(1);
-        Ok(serial)
+        Ok(block)
     }
 
-    // The `i`-th word of a serial's piece.
-    pub(crate) fn word(&self, serial: u64, i: u32) -> u64
-        requires { i < length (unwrap_or (piece_in self.now serial) []) }
-        ensures { slice_get (unwrap_or (piece_in self.now serial) []) i ≡ Some result }
+    // The words of a block's piece, which is held.
+    pub(crate) fn words(&self, block: u32) -> &[u64]
+        requires { 0 < count_in self.now block }
+        ensures { piece_in self.now block ≡ Some result.now }
     {
-        let piece = &list(&self.pieces)[(serial - self.first) as usize];
-        piece.items()[i as usize]
+        list(&self.pieces)[block as usize].items()
     }
 
-    // One hold more of a serial's piece.
-    pub(crate) fn hold(&mut self, serial: u64)
-        requires known { IsSome (piece_in self.old serial) }
-        requires fits { count_in self.old serial + 1 < 2 ^ 32 }
-        ensures row { self.new ≡ counted self.old serial (count_in self.old serial + 1) }
-        ensures there { IsPlace self.old serial }
+    // One hold more of a block's piece.
+    pub(crate) fn hold(&mut self, block: u32)
+        requires known { IsSome (piece_in self.old block) }
+        requires fits { count_in self.old block + 1 < 2 ^ 32 }
+        ensures layer { self.new ≡ counted self.old block (count_in self.old block + 1) }
+        ensures there { block < length self.old.holds }
     {
-        let index = (serial - self.first) as usize;
-        self.holds[index] += 1;
+        self.holds[block as usize] += 1;
     }
 
-    // One hold less of a serial's piece.
-    pub(crate) fn let_go(&mut self, serial: u64)
-        requires { 0 < count_in self.old serial }
-        ensures row { self.new ≡ counted self.old serial (count_in self.old serial - 1) }
-        ensures there { IsPlace self.old serial }
+    // One hold less of a block's piece.
+    pub(crate) fn let_go(&mut self, block: u32)
+        requires { 0 < count_in self.old block }
+        ensures layer { self.new ≡ counted self.old block (count_in self.old block - 1) }
+        ensures there { block < length self.old.holds }
     {
-        let index = (serial - self.first) as usize;
-        self.holds[index] -= 1;
+        self.holds[block as usize] -= 1;
     }
 
     // The same pieces for another pass, which holds none of them.
@@ -101,10 +96,6 @@ impl Layer {
     {
         let holds = vec![in alloc; 0; self.holds.len()]?;
         let pieces = Pieces::Shared(share(&mut self.pieces, alloc)?);
-        Ok(Layer {
-            first: self.first,
-            pieces,
-            holds,
-        })
+        Ok(Layer { pieces, holds })
     }
 }

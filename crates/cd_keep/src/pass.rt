@@ -1,5 +1,5 @@
-ghost use Rattle.std.specs.Prelude.{◌≡◌, ◌<◌, ◌≤◌, None, Some, IsSome, length, slice_get, IfOk, OnOk, OnErr, MatchResult};
-ghost use Rattle.cd_keep.specs.Shown.{Shown, IsPiece, CanJoin, words_of, kept, shared, lapsed, gave_up, child_of, without, joined};
+ghost use Rattle.std.specs.Prelude.{◌≡◌, ◌+◌, ◌^◌, ◌<◌, ◌≤◌, None, Some, IsSome, length, slice_get, IfOk, OnOk, OnErr, MatchResult};
+ghost use Rattle.cd_keep.specs.PassModel.{PassModel, IsPiece, AreShort, CanJoin, words_of, kept, shared, lapsed, gave_up, child_of, without, joined};
 
 use crate::{GoneNote, KeepId};
 use cd_base::NoMemory;
@@ -8,45 +8,65 @@ use std::sync::Wait;
 /// A caller's pass to a store of preserved words: what it holds there, what it has seen, and its room, the number of holds
 /// that it may still take. Several holds may be of one id.
 ///
-/// After want of memory a pass is as it was.
+/// After want of memory a pass is as it was. Every call keeps the room that the first pass was opened with, which bounds
+/// what a pass holds together with its room; so where all room comes from one opening, counts stay below 2^32, and those
+/// of passes that are taken back are together within it.
 pub trait Pass: Sized + Send + Drop {
-    ghost shown: { Self → Shown };
+    ghost model: { Self → PassModel };
 
     /// Keeps words under a new id, and holds it once. It may wait.
     fn keep<R: Wait>(&mut self, rt: &R, words: &[u64]) -> Result<KeepId, NoMemory>
         requires piece { IsPiece words.now }
-        requires room { 0 < (shown self.old).room }
-        ensures new { IfOk result (λ id. (shown self.old).known id ≡ None) }
-        ensures kept { IfOk result (λ id. shown self.new ≡ kept (shown self.old) id words.now) }
-        ensures unchanged { OnErr result (shown self.new ≡ shown self.old) };
+        requires room { 0 < (model self.old).room }
+        ensures new { IfOk result (λ id. (model self.old).known id ≡ None) }
+        ensures kept { IfOk result (λ id. model self.new ≡ kept (model self.old) id words.now) }
+        ensures unchanged { OnErr result (model self.new ≡ model self.old) };
 
     /// Splits off a pass of the same store that holds nothing, knows what this one knows, and takes `room` of its room.
     fn split(&mut self, room: u32) -> Result<Self, NoMemory>
-        requires { room ≤ (shown self.old).room }
-        ensures child { IfOk result (λ child. shown child ≡ child_of (shown self.old) room) }
-        ensures rest { OnOk result (shown self.new ≡ without (shown self.old) room) }
-        ensures unchanged { OnErr result (shown self.new ≡ shown self.old) };
+        requires { room ≤ (model self.old).room }
+        ensures child { IfOk result (λ child. model child ≡ child_of (model self.old) room) }
+        ensures rest { OnOk result (model self.new ≡ without (model self.old) room) }
+        ensures unchanged { OnErr result (model self.new ≡ model self.old) };
 
     /// Holds a known id once more. The error, called Gone, says that its words are no longer there. It takes no memory.
     fn share(&mut self, seen: KeepId) -> Result<(), GoneNote>
-        requires known { IsSome ((shown self.old).known seen) }
-        requires room { 0 < (shown self.old).room }
-        ensures { MatchResult result (λ _. shown self.new ≡ shared (shown self.old) seen) (λ note. shown self.new ≡ lapsed (shown self.old) seen note) };
+        requires known { IsSome ((model self.old).known seen) }
+        requires room { 0 < (model self.old).room }
+        ensures { MatchResult result (λ _. model self.new ≡ shared (model self.old) seen) (λ note. model self.new ≡ lapsed (model self.old) seen note) };
 
     /// The `i`-th word, from 0, of an id that is held. It takes no memory.
     fn word(&mut self, id: KeepId, i: u32) -> u64
-        requires held { 0 < (shown self.old).holds id }
-        requires within { i < length (words_of (shown self.old) id) }
-        ensures word { slice_get (words_of (shown self.old) id) i ≡ Some result }
-        ensures same { shown self.new ≡ shown self.old };
+        requires held { 0 < (model self.old).holds id }
+        requires within { i < length (words_of (model self.old) id) }
+        ensures word { slice_get (words_of (model self.old) id) i ≡ Some result }
+        ensures same { model self.new ≡ model self.old };
+
+    /// The words of an id that is held, into a slice of as many. It takes no memory.
+    fn fetch(&mut self, id: KeepId, words: &mut [u64])
+        requires held { 0 < (model self.old).holds id }
+        requires length { length words.old ≡ length (words_of (model self.old) id) }
+        ensures words { words.new ≡ words_of (model self.old) id }
+        ensures same { model self.new ≡ model self.old }
+    {
+        for (i, word) in words.iter_mut().enumerate() {
+            *word = self.word(id, i as u32);
+        }
+    }
 
     /// Gives up one hold of an id; the id stays known. It takes no memory.
     fn give_up(&mut self, id: KeepId)
-        requires { 0 < (shown self.old).holds id }
-        ensures { shown self.new ≡ gave_up (shown self.old) id };
+        requires { 0 < (model self.old).holds id }
+        ensures { model self.new ≡ gave_up (model self.old) id };
 
     /// Takes back a pass of the same store that holds nothing: its room and its gone answers. It takes no memory.
     fn join(&mut self, child: Self)
-        requires { CanJoin (shown self.old) (shown child) }
-        ensures { shown self.new ≡ joined (shown self.old) (shown child) };
+        requires { CanJoin (model self.old) (model child) }
+        ensures { model self.new ≡ joined (model self.old) (model child) };
+
+    ghost within: { (p : Self) → (model p).held + (model p).room ≤ (model p).most };
+
+    ghost few: { (p : Self) → (model p).most < 2 ^ 32 };
+
+    ghost short: { (p : Self) → AreShort (model p).known };
 }

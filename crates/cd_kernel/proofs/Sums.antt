@@ -1,24 +1,9 @@
 -- Sums and greatest words taken one by one, and sums in which most terms are nothing.
-use Rattle.std.proofs.Common.{◌≡◌, ℕ, zero, suc, ◌+◌, ◌^◌, ◌<◌, ◌≤◌, max, arith, refl, ap, sym, ◌∙◌, add-one, inl, inr}
+use Rattle.std.proofs.Common.{◌≡◌, ℕ, zero, suc, ◌+◌, ◌^◌, ◌<◌, ◌≤◌, max, arith, ap, sym, ◌∙◌, add-one, inl, inr}
 use Rattle.std.proofs.Math.Nat.{add-mod-mod, mod-add-mod}
 use Rattle.std.proofs.lemmas.Bool.{cases_lt}
 use Rattle.cd_base.specs.Words.{word_of}
 use Rattle.cd_tree.specs.Operations.{total, greatest}
-
--- sums of the same terms are the same
-pub total-same : (f g : ℕ → ℕ) (n : ℕ) → ((j : ℕ) → j < n → f j ≡ g j) → total f n ≡ total g n
-total-same f g zero same = refl
-total-same f g (suc n) same =
-    let last : f n ≡ g n = same n (omega arith) in
-    let front : total f n ≡ total g n = total-same f g n (λ j h. same j (omega arith)) in
-    cc
-
-pub greatest-same : (f g : ℕ → ℕ) (n : ℕ) → ((j : ℕ) → j < n → f j ≡ g j) → greatest f n ≡ greatest g n
-greatest-same f g zero same = refl
-greatest-same f g (suc n) same =
-    let last : f n ≡ g n = same n (omega arith) in
-    let front : greatest f n ≡ greatest g n = greatest-same f g n (λ j h. same j (omega arith)) in
-    cc
 
 -- terms that are nothing add nothing
 pub total-flat : (f : ℕ → ℕ) (a b : ℕ) → a ≤ b → ((j : ℕ) → a ≤ j → j < b → f j ≡ 0) → total f b ≡ total f a

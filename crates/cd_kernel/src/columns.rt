@@ -15,9 +15,9 @@ pub(crate) fn column_word<F: Field>(op: &Op, i: u32, field: &F) -> u64
     requires direct { IsDirect op.now }
     requires full { All IsFull (op_writes op.now ∷ op_reads op.now) }
     requires shape { FitsShape op.now }
-    requires here { All (IsHere (F.state field.now)) (op_reads op.now) }
+    requires here { All (IsHere (F.model field.now)) (op_reads op.now) }
     requires inside { i < length_of (op_writes op.now) }
-    ensures { result ≡ column op.now (F.state field.now).words i }
+    ensures { result ≡ column op.now (F.model field.now).words i }
 {
     match *op {
         Op::Fill(_, word) => word,
@@ -37,32 +37,32 @@ pub(crate) fn column_word<F: Field>(op: &Op, i: u32, field: &F) -> u64
 
 fn sum_of_two<F: Field>(x: Range, z: Range, i: u32, field: &F) -> u64
     requires inside { (i < length_of x) × (i < length_of z) }
-    requires here { IsHere (F.state field.now) x × IsHere (F.state field.now) z }
-    ensures { result ≡ word_of (nth_word (F.state field.now).words x i + nth_word (F.state field.now).words z i) }
+    requires here { IsHere (F.model field.now) x × IsHere (F.model field.now) z }
+    ensures { result ≡ word_of (nth_word (F.model field.now).words x i + nth_word (F.model field.now).words z i) }
 {
     read_nth(x, i, field).wrapping_add(read_nth(z, i, field))
 }
 
 fn difference<F: Field>(x: Range, z: Range, i: u32, field: &F) -> u64
     requires inside { (i < length_of x) × (i < length_of z) }
-    requires here { IsHere (F.state field.now) x × IsHere (F.state field.now) z }
-    ensures { result ≡ word_of (nth_word (F.state field.now).words x i + (2 ^ 64 - nth_word (F.state field.now).words z i)) }
+    requires here { IsHere (F.model field.now) x × IsHere (F.model field.now) z }
+    ensures { result ≡ word_of (nth_word (F.model field.now).words x i + (2 ^ 64 - nth_word (F.model field.now).words z i)) }
 {
     read_nth(x, i, field).wrapping_sub(read_nth(z, i, field))
 }
 
 fn product<F: Field>(x: Range, z: Range, i: u32, field: &F) -> u64
     requires inside { (i < length_of x) × (i < length_of z) }
-    requires here { IsHere (F.state field.now) x × IsHere (F.state field.now) z }
-    ensures { result ≡ word_of (nth_word (F.state field.now).words x i * nth_word (F.state field.now).words z i) }
+    requires here { IsHere (F.model field.now) x × IsHere (F.model field.now) z }
+    ensures { result ≡ word_of (nth_word (F.model field.now).words x i * nth_word (F.model field.now).words z i) }
 {
     read_nth(x, i, field).wrapping_mul(read_nth(z, i, field))
 }
 
 fn multiple_added<F: Field>(d: Range, factor: u64, x: Range, i: u32, field: &F) -> u64
     requires inside { (i < length_of d) × (i < length_of x) }
-    requires here { IsHere (F.state field.now) d × IsHere (F.state field.now) x }
-    ensures { result ≡ word_of (nth_word (F.state field.now).words d i + factor * nth_word (F.state field.now).words x i) }
+    requires here { IsHere (F.model field.now) d × IsHere (F.model field.now) x }
+    ensures { result ≡ word_of (nth_word (F.model field.now).words d i + factor * nth_word (F.model field.now).words x i) }
 {
     let multiple = factor.wrapping_mul(read_nth(x, i, field));
     read_nth(d, i, field).wrapping_add(multiple)
@@ -70,8 +70,8 @@ fn multiple_added<F: Field>(d: Range, factor: u64, x: Range, i: u32, field: &F) 
 
 fn sum_of_all<F: Field>(x: Range, field: &F) -> u64
     requires full { IsFull x }
-    requires here { IsHere (F.state field.now) x }
-    ensures { result ≡ word_of (total (nth_word (F.state field.now).words x) (length_of x)) }
+    requires here { IsHere (F.model field.now) x }
+    ensures { result ≡ word_of (total (nth_word (F.model field.now).words x) (length_of x)) }
 {
     let mut sum = 0u64;
     for j in 0..x.high - x.low {
@@ -83,8 +83,8 @@ fn sum_of_all<F: Field>(x: Range, field: &F) -> u64
 fn sum_of_products<F: Field>(x: Range, z: Range, field: &F) -> u64
     requires full { IsFull x }
     requires same { length_of x ≡ length_of z }
-    requires here { IsHere (F.state field.now) x × IsHere (F.state field.now) z }
-    ensures { result ≡ word_of (total (λ j. nth_word (F.state field.now).words x j * nth_word (F.state field.now).words z j) (length_of x)) }
+    requires here { IsHere (F.model field.now) x × IsHere (F.model field.now) z }
+    ensures { result ≡ word_of (total (λ j. nth_word (F.model field.now).words x j * nth_word (F.model field.now).words z j) (length_of x)) }
 {
     let mut sum = 0u64;
     for j in 0..x.high - x.low {
@@ -95,8 +95,8 @@ fn sum_of_products<F: Field>(x: Range, z: Range, field: &F) -> u64
 
 fn greatest_word<F: Field>(x: Range, field: &F) -> u64
     requires full { IsFull x }
-    requires here { IsHere (F.state field.now) x }
-    ensures { result ≡ greatest (nth_word (F.state field.now).words x) (length_of x) }
+    requires here { IsHere (F.model field.now) x }
+    ensures { result ≡ greatest (nth_word (F.model field.now).words x) (length_of x) }
 {
     let mut most = 0u64;
     for j in 0..x.high - x.low {
@@ -108,8 +108,8 @@ fn greatest_word<F: Field>(x: Range, field: &F) -> u64
 // Three words from the i-th on, weighted.
 fn weighted<F: Field>(a: u64, b: u64, c: u64, x: Range, i: u32, field: &F) -> u64
     requires inside { i + 2 < length_of x }
-    requires here { IsHere (F.state field.now) x }
-    ensures { result ≡ word_of (a * nth_word (F.state field.now).words x i + b * nth_word (F.state field.now).words x (i + 1) + c * nth_word (F.state field.now).words x (i + 2)) }
+    requires here { IsHere (F.model field.now) x }
+    ensures { result ≡ word_of (a * nth_word (F.model field.now).words x i + b * nth_word (F.model field.now).words x (i + 1) + c * nth_word (F.model field.now).words x (i + 2)) }
 {
     let first = a.wrapping_mul(read_nth(x, i, field));
     let second = b.wrapping_mul(read_nth(x, i + 1, field));
@@ -122,8 +122,8 @@ fn row_product<F: Field>(s: Range, c: Range, v: Range, x: Range, i: u32, field: 
     requires inside { i + 1 < length_of s }
     requires full { IsFull v × IsFull x }
     requires same { length_of c ≡ length_of v }
-    requires here { All (IsHere (F.state field.now)) (s ∷ c ∷ v ∷ x ∷ []) }
-    ensures { result ≡ word_of (total (product_at (F.state field.now).words s c v x i) (length_of v)) }
+    requires here { All (IsHere (F.model field.now)) (s ∷ c ∷ v ∷ x ∷ []) }
+    ensures { result ≡ word_of (total (product_at (F.model field.now).words s c v x i) (length_of v)) }
 {
     let count = v.high - v.low;
     let start = cut(read_nth(s, i, field), count);
@@ -145,8 +145,8 @@ fn cut(word: u64, count: u32) -> u32
 fn entry_product<F: Field>(c: Range, v: Range, x: Range, p: u32, field: &F) -> u64
     requires inside { (p < length_of c) × (p < length_of v) }
     requires full { IsFull x }
-    requires here { IsHere (F.state field.now) c × IsHere (F.state field.now) v × IsHere (F.state field.now) x }
-    ensures { result ≡ (if nat_lt (nth_word (F.state field.now).words c p) (length_of x) then word_of (nth_word (F.state field.now).words v p * nth_word (F.state field.now).words x (nth_word (F.state field.now).words c p)) else 0) }
+    requires here { IsHere (F.model field.now) c × IsHere (F.model field.now) v × IsHere (F.model field.now) x }
+    ensures { result ≡ (if nat_lt (nth_word (F.model field.now).words c p) (length_of x) then word_of (nth_word (F.model field.now).words v p * nth_word (F.model field.now).words x (nth_word (F.model field.now).words c p)) else 0) }
 {
     let column = read_nth(c, p, field);
     if column < u64::from(x.high - x.low) {

@@ -1,21 +1,21 @@
 ghost use Rattle.std.specs.Prelude.{◌≡◌, ◌∷◌, [], All};
 ghost use Rattle.cd_tree.specs.Operations.{op_reads, op_writes, FitsShape, IsFull, IsInStep};
 ghost use Rattle.cd_tree.specs.declared.operation.Op.TheVariants.{Fill, Scan};
-ghost use Rattle.cd_field.specs.Machine.{ArePresent};
+ghost use Rattle.cd_field.specs.FieldModel.{ArePresent};
 ghost use Rattle.cd_kernel.specs.Computing.{computed, IsDirect};
 
 use crate::columns::column_word;
 use crate::words::{read_nth, write_nth};
 use cd_base::Range;
 use cd_field::Field;
-use cd_tree::{Op, writes};
+use cd_tree::{Op, laws, writes};
 
 /// Runs an operation. Record, notes, lost places and all words outside the destination stay. It takes no memory.
 pub fn apply<F: Field>(op: &Op, field: &mut F)
     requires full { All IsFull (op_writes op.now ∷ op_reads op.now) }
     requires shape { FitsShape op.now }
-    requires present { ArePresent (F.state field.old) (op_writes op.now ∷ op_reads op.now) }
-    ensures { F.state field.new ≡ computed (F.state field.old) op.now }
+    requires present { ArePresent (F.model field.old) (op_writes op.now ∷ op_reads op.now) }
+    ensures { F.model field.new ≡ computed (F.model field.old) op.now }
 {
     match *op {
         Op::Scan(d, x) => scan(d, x, field),
@@ -40,9 +40,10 @@ fn write_columns<F: Field>(op: &Op, field: &mut F)
     requires direct { IsDirect op.now }
     requires full { All IsFull (op_writes op.now ∷ op_reads op.now) }
     requires shape { FitsShape op.now }
-    requires present { ArePresent (F.state field.old) (op_writes op.now ∷ op_reads op.now) }
-    ensures { F.state field.new ≡ computed (F.state field.old) op.now }
+    requires present { ArePresent (F.model field.old) (op_writes op.now ∷ op_reads op.now) }
+    ensures { F.model field.new ≡ computed (F.model field.old) op.now }
 {
+    laws::an_operation_sees_its_sources_alone();
     let d = writes(op);
     for i in 0..d.high - d.low {
         let word = column_word(op, i, field);
@@ -54,8 +55,8 @@ fn write_columns<F: Field>(op: &Op, field: &mut F)
 #[inline(never)]
 fn fill<F: Field>(d: Range, word: u64, field: &mut F)
     requires full { IsFull d }
-    requires present { ArePresent (F.state field.old) (d ∷ []) }
-    ensures { F.state field.new ≡ computed (F.state field.old) (Fill d word) }
+    requires present { ArePresent (F.model field.old) (d ∷ []) }
+    ensures { F.model field.new ≡ computed (F.model field.old) (Fill d word) }
 {
     for i in 0..d.high - d.low {
         write_nth(d, i, word, field);
@@ -66,8 +67,8 @@ fn fill<F: Field>(d: Range, word: u64, field: &mut F)
 fn scan<F: Field>(d: Range, x: Range, field: &mut F)
     requires full { All IsFull (d ∷ x ∷ []) }
     requires shape { IsInStep d x }
-    requires present { ArePresent (F.state field.old) (d ∷ x ∷ []) }
-    ensures { F.state field.new ≡ computed (F.state field.old) (Scan d x) }
+    requires present { ArePresent (F.model field.old) (d ∷ x ∷ []) }
+    ensures { F.model field.new ≡ computed (F.model field.old) (Scan d x) }
 {
     let mut sum = 0u64;
     for i in 0..d.high - d.low {

@@ -38,7 +38,7 @@ fn one_region(alloc: Global) -> Result<Regions, Fail>
 
 // A machine whose words all are 0.
 fn load_board<F: Field>(alloc: Global, field: &mut F) -> Result<(), Fail>
-    ensures { OnOk result (HasBoard (F.state field.new)) }
+    ensures { OnOk result (HasBoard (F.model field.new)) }
 {
     field.load(&one_region(alloc)?, &Items::new(alloc))?;
     Ok(())
@@ -46,8 +46,8 @@ fn load_board<F: Field>(alloc: Global, field: &mut F) -> Result<(), Fail>
 
 // Words from an index on, in place of those that stand there.
 fn put<F: Field>(rt: &impl Abort, field: &mut F, low: u32, words: &[u64])
-    requires { HasBoard (F.state field.old) }
-    ensures { HasBoard (F.state field.new) }
+    requires { HasBoard (F.model field.old) }
+    ensures { HasBoard (F.model field.new) }
 {
     let mut index = low;
     for word in words {
@@ -59,7 +59,7 @@ fn put<F: Field>(rt: &impl Abort, field: &mut F, low: u32, words: &[u64])
 
 // The words from an index on are these.
 fn expect_words<F: Field>(rt: &impl Abort, field: &F, low: u32, words: &[u64])
-    requires { HasBoard (F.state field.now) }
+    requires { HasBoard (F.model field.now) }
 {
     let mut index = low;
     for word in words {
@@ -150,8 +150,8 @@ fn fits(op: &Op) -> bool
 
 // Runs an operation that fits.
 fn run<F: Field>(rt: &impl Abort, field: &mut F, op: Op)
-    requires { HasBoard (F.state field.old) }
-    ensures { HasBoard (F.state field.new) }
+    requires { HasBoard (F.model field.old) }
+    ensures { HasBoard (F.model field.new) }
 {
     assert!(rt; fits(&op));
     apply(&op, field);

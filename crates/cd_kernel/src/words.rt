@@ -1,7 +1,7 @@
 // The words of a range by their number.
 ghost use Rattle.std.specs.Prelude.{◌≡◌, ◌<◌};
 ghost use Rattle.cd_tree.specs.Operations.{length_of, nth_word};
-ghost use Rattle.cd_field.specs.Machine.{wrote};
+ghost use Rattle.cd_field.specs.FieldModel.{wrote};
 ghost use Rattle.cd_kernel.specs.Computing.{IsHere, nth_place};
 
 use cd_base::{Place, Range};
@@ -10,8 +10,8 @@ use cd_field::Field;
 /// The i-th word of a range.
 pub(crate) fn read_nth<F: Field>(range: Range, i: u32, field: &F) -> u64
     requires inside { i < length_of range }
-    requires here { IsHere (F.state field.now) range }
-    ensures { result ≡ nth_word (F.state field.now).words range i }
+    requires here { IsHere (F.model field.now) range }
+    ensures { result ≡ nth_word (F.model field.now).words range i }
 {
     field.read(nth(range, i))
 }
@@ -19,8 +19,8 @@ pub(crate) fn read_nth<F: Field>(range: Range, i: u32, field: &F) -> u64
 /// Changes the i-th word of a range.
 pub(crate) fn write_nth<F: Field>(range: Range, i: u32, word: u64, field: &mut F)
     requires inside { i < length_of range }
-    requires here { IsHere (F.state field.old) range }
-    ensures { F.state field.new ≡ wrote (F.state field.old) (nth_place range i) word }
+    requires here { IsHere (F.model field.old) range }
+    ensures { F.model field.new ≡ wrote (F.model field.old) (nth_place range i) word }
 {
     field.write(nth(range, i), word);
 }

@@ -24,8 +24,7 @@ const ROOT_END: &str = "sum total y\nend\n";
 pub fn write_make<K: Sink>(alloc: Global, size: u32, sink: &mut K) -> Result<(), WriteStop>
     requires some { 0 < size }
     requires few { size ≤ 14 }
-    ensures meets { WriteAll (K.holds sink.old) (K.holds sink.new) (K.faults sink.old) (K.faults sink.new) (make_text size) result }
-    ensures count { K.faults sink.old ≤ K.faults sink.new }
+    ensures { WriteAll (K.model sink.old) (K.model sink.new) (make_text size) result }
 {
     match whole_text(alloc, size) {
         Ok(text) => write_all(sink, text.as_bytes()),

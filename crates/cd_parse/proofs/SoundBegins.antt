@@ -9,10 +9,10 @@ use Rattle.cd_tree.specs.declared.domain.Item.TheVariants.{Group}
 use Rattle.cd_tree.specs.declared.domain.Domain.{Domain}
 use Rattle.cd_tree.specs.declared.kinds.KindName.{KindName}
 use Rattle.cd_tree.specs.Operations.{IsFull}
-use Rattle.cd_tree.specs.Outlines.{NamesChildren, FitsDomain, EachFits}
+use Rattle.cd_tree.specs.TreeModel.{NamesChildren, FitsDomain, EachFits}
 use Rattle.cd_parse.specs.declared.draft.Stage.TheVariants.{Root}
 use Rattle.cd_parse.specs.declared.draft.Level.{Level}
-use Rattle.cd_parse.specs.Draft.{Draft, changed, with_item, level_of, add_domain, close_domain, stage_behind}
+use Rattle.cd_parse.specs.Draft.{DraftModel, changed, with_item, level_of, add_domain, close_domain, stage_behind}
 use Rattle.cd_parse.specs.Heads.{domain_named}
 use Rattle.cd_parse.specs.Sound.{one_group, open_groups, ids_in, named_by, FitsGroup, IsLevel, IsStaged, IsSound}
 use Rattle.cd_parse.proofs.SoundWalk.{names_append}
@@ -52,7 +52,7 @@ alone_in at domains more grown same parent name alone k domain is same_parent sa
     alone k was.other was.is (was.parent ∙ same_parent) (was.name ∙ same_name)
 
 -- a domain begins in one that is open, which names it in itself or in its group
-sound_begun : (draft : Draft) (at : ℕ) (group other : Option (List NodeId)) (outer : List Level) (domains : List Domain) (name : List ℕ) (tries set items : ℕ)
+sound_begun : (draft : DraftModel) (at : ℕ) (group other : Option (List NodeId)) (outer : List Level) (domains : List Domain) (name : List ℕ) (tries set items : ℕ)
     → IsSound (at_levels draft (level_of at group ∷ outer))
     → Begins draft.kinds draft.domains (Some (record { 0 = at })) name tries set
     → suc (suc (length outer)) ≤ 16
@@ -104,7 +104,7 @@ sound_begun draft at group other outer domains name tries set items is begins de
     }
 
 -- a domain begins in the body of one that is open
-pub domain_in_body_is_sound : (draft : Draft) (at : ℕ) (outer : List Level) (name : List ℕ) (tries set : ℕ)
+pub domain_in_body_is_sound : (draft : DraftModel) (at : ℕ) (outer : List Level) (name : List ℕ) (tries set : ℕ)
     → IsSound (at_levels draft (level_of at None ∷ outer))
     → Begins draft.kinds draft.domains (Some (record { 0 = at })) name tries set
     → suc (suc (length outer)) ≤ 16 → draft.items < 16384
@@ -135,7 +135,7 @@ domain_in_body_is_sound draft at outer name tries set is begins deep room =
     (entries_same at (Group (id ∷ [])) draft.domains mine.domain mine.there ∙ is.preserves)
 
 -- a domain begins in the group that is open in another
-pub domain_in_group_is_sound : (draft : Draft) (at : ℕ) (members : List NodeId) (outer : List Level) (name : List ℕ) (tries set : ℕ)
+pub domain_in_group_is_sound : (draft : DraftModel) (at : ℕ) (members : List NodeId) (outer : List Level) (name : List ℕ) (tries set : ℕ)
     → IsSound (at_levels draft (level_of at (Some members) ∷ outer))
     → Begins draft.kinds draft.domains (Some (record { 0 = at })) name tries set
     → suc (suc (length outer)) ≤ 16 → length members < 256
@@ -160,7 +160,7 @@ domain_in_group_is_sound draft at members outer name tries set is begins deep ro
     is.items is.few_items is.preserves
 
 -- the root begins
-root_begun : (draft : Draft) (name : List ℕ) (tries set : ℕ) → IsSound (record draft { domains = []; levels = [] })
+root_begun : (draft : DraftModel) (name : List ℕ) (tries set : ℕ) → IsSound (record draft { domains = []; levels = [] })
     → Begins draft.kinds [] None name tries set
     → IsSound (add_domain (domain_named name None tries set) (record draft { domains = []; levels = [] }))
 root_begun draft name tries set is begins =
@@ -188,7 +188,7 @@ root_begun draft name tries set is begins =
       few_faults = is.few_faults;
     }
 
-pub root_is_sound : (draft : Draft) (name : List ℕ) (tries set : ℕ) → IsSound (at_levels draft []) → draft.domains ≡ []
+pub root_is_sound : (draft : DraftModel) (name : List ℕ) (tries set : ℕ) → IsSound (at_levels draft []) → draft.domains ≡ []
     → Begins draft.kinds draft.domains None name tries set
     → IsSound (add_domain (domain_named name None tries set) (at_levels draft []))
 root_is_sound draft name tries set is none =
@@ -202,7 +202,7 @@ staged_behind : (domains : List Domain) (outer : List Level) → 0 < length doma
 staged_behind domains [] some = (some, refl)
 staged_behind domains (level ∷ outer) some = (some, omega arith)
 
-pub ended_is_sound : (draft : Draft) (at : ℕ) (outer : List Level) → IsSound (at_levels draft (level_of at None ∷ outer))
+pub ended_is_sound : (draft : DraftModel) (at : ℕ) (outer : List Level) → IsSound (at_levels draft (level_of at None ∷ outer))
     → IsSound (close_domain outer (at_levels draft (level_of at None ∷ outer)))
 ended_is_sound draft at outer is =
     let mine : IsLevel is.deep draft.domains (level_of at None) outer = is.walk.each.0 in

@@ -11,17 +11,17 @@ use Rattle.cd_tree.specs.declared.domain.Domain.{Domain}
 use Rattle.cd_tree.specs.declared.kinds.KindName.{KindName}
 use Rattle.cd_tree.specs.declared.operation.Op.{Op}
 use Rattle.cd_tree.specs.Operations.{op_reads, op_writes, IsFull, FitsShape}
-use Rattle.cd_tree.specs.Outlines.{FitsItems, FitsDomain, EachFits}
+use Rattle.cd_tree.specs.TreeModel.{FitsItems, FitsDomain, EachFits}
 use Rattle.cd_parse.specs.declared.draft.Stage.{Stage}
 use Rattle.cd_parse.specs.declared.draft.Stage.TheVariants.{Start, Kinds, Regions, Root, Closed, Strikes}
 use Rattle.cd_parse.specs.declared.draft.Level.{Level}
-use Rattle.cd_parse.specs.Draft.{Draft, no_draft, changed, with_item, with_entry, add_item, add_entry, level_of, open_group, close_group}
+use Rattle.cd_parse.specs.Draft.{DraftModel, no_draft, changed, with_item, with_entry, add_item, add_entry, level_of, open_group, close_group}
 use Rattle.cd_parse.specs.Sound.{one_group, open_groups, ids_of, ids_in, members_in, named_by, FitsGroup, Tiles, IsLevel, IsStaged, IsSound}
 use Rattle.cd_parse.proofs.SoundLists.{Grown, grown_by_change, grown_not, push_length, changed_length, changed_here, ids_append}
 use Rattle.cd_parse.proofs.SoundSteps.{children_kept, walk_changed}
 use Rattle.cd_parse.proofs.SoundDomains.{items_append, each_kept, each_changed, siblings_kept, sum_changed}
 
-abbrev pub at_levels : Draft → List Level → Draft
+abbrev pub at_levels : DraftModel → List Level → DraftModel
 at_levels draft levels = record draft { levels = levels }
 
 -- a domain that is open is in the root
@@ -67,7 +67,7 @@ no_draft_is_sound =
     }
 
 -- a statement or a turn more
-pub counted_is_sound : (draft : Draft) (lines : ℕ) → IsSound draft → IsSound (record draft { lines = lines })
+pub counted_is_sound : (draft : DraftModel) (lines : ℕ) → IsSound draft → IsSound (record draft { lines = lines })
 counted_is_sound draft lines is =
     record {
       staged = is.staged;
@@ -99,7 +99,7 @@ abbrev pub entries_in : Domain → ℕ
 entries_in domain = length domain.entries
 
 -- what a change of the innermost domain keeps, where it names no other domain
-pub sound_inside : (draft : Draft) (at : ℕ) (group other : Option (List NodeId)) (outer : List Level) (more : List Domain) (items preserves : ℕ)
+pub sound_inside : (draft : DraftModel) (at : ℕ) (group other : Option (List NodeId)) (outer : List Level) (more : List Domain) (items preserves : ℕ)
     → IsSound (at_levels draft (level_of at group ∷ outer))
     → Grown at draft.domains more → length more ≡ length draft.domains → FitsGroup draft.domains at other
     → named_by more (level_of at other) ≡ named_by draft.domains (level_of at group)
@@ -180,7 +180,7 @@ each_item kinds at item domains all grown each fits =
     (λ domain is here. fits_item kinds all at item domain fits here)
 
 -- an operation more in the innermost domain
-pub op_is_sound : (draft : Draft) (at : ℕ) (outer : List Level) (op : Op) → IsSound (at_levels draft (level_of at None ∷ outer))
+pub op_is_sound : (draft : DraftModel) (at : ℕ) (outer : List Level) (op : Op) → IsSound (at_levels draft (level_of at None ∷ outer))
     → All IsFull (op_writes op ∷ op_reads op) → FitsShape op → draft.items < 16384
     → IsSound (add_item at (Run op) (at_levels draft (level_of at None ∷ outer)))
 op_is_sound draft at outer op is full shape room =
@@ -199,7 +199,7 @@ op_is_sound draft at outer op is full shape room =
 
 -- ---- a group opens and closes
 
-pub group_is_sound : (draft : Draft) (at : ℕ) (outer : List Level) → IsSound (at_levels draft (level_of at None ∷ outer))
+pub group_is_sound : (draft : DraftModel) (at : ℕ) (outer : List Level) → IsSound (at_levels draft (level_of at None ∷ outer))
     → draft.items < 16384 → IsSound (open_group (level_of at None ∷ outer) (at_levels draft (level_of at None ∷ outer)))
 group_is_sound draft at outer is room =
     let mine : IsLevel is.deep draft.domains (level_of at None) outer = is.walk.each.0 in
@@ -208,7 +208,7 @@ group_is_sound draft at outer is room =
     (grown_not at draft.domains mine.domain mine.there) refl (tt, omega arith) refl is.each
     (omega arith) (omega arith) is.preserves is.few_preserves
 
-pub closed_group_is_sound : (draft : Draft) (at : ℕ) (members : List NodeId) (outer : List Level)
+pub closed_group_is_sound : (draft : DraftModel) (at : ℕ) (members : List NodeId) (outer : List Level)
     → IsSound (at_levels draft (level_of at (Some members) ∷ outer)) → 0 < length members
     → IsSound (close_group at members outer (at_levels draft (level_of at (Some members) ∷ outer)))
 closed_group_is_sound draft at members outer is some =
@@ -245,7 +245,7 @@ fits_entry kinds all at entry domain full room is =
       items = is.items;
     }
 
-pub entry_is_sound : (draft : Draft) (at : ℕ) (group : Option (List NodeId)) (outer : List Level) (entry : Entry)
+pub entry_is_sound : (draft : DraftModel) (at : ℕ) (group : Option (List NodeId)) (outer : List Level) (entry : Entry)
     → IsSound (at_levels draft (level_of at group ∷ outer)) → IsFull entry.range
     → ((domain : Domain) → slice_get draft.domains at ≡ Some domain → length domain.entries < 64) → draft.preserves < 16384
     → IsSound (add_entry at entry (at_levels draft (level_of at group ∷ outer)))

@@ -11,7 +11,7 @@ use Rattle.cd_tree.specs.declared.domain.Item.{Item}
 use Rattle.cd_tree.specs.declared.domain.Item.TheVariants.{Run, Group}
 use Rattle.cd_tree.specs.declared.domain.Domain.{Domain}
 use Rattle.cd_tree.specs.declared.kinds.KindName.{KindName}
-use Rattle.cd_tree.specs.Outlines.{FitsItems, FitsDomain, EachFits, SiblingsDiffer}
+use Rattle.cd_tree.specs.TreeModel.{FitsItems, FitsDomain, EachFits, SiblingsDiffer}
 use Rattle.cd_parse.specs.Draft.{changed, is_parent, has_child_named}
 use Rattle.cd_parse.proofs.SoundLists.{Grown, Head, head_before, push_cases}
 use Rattle.cd_parse.proofs.SoundSteps.{children_kept}

@@ -5,11 +5,11 @@ use Rattle.cd_tree.specs.declared.document.Region.{Region}
 use Rattle.cd_tree.specs.declared.document.RawFault.{RawFault}
 use Rattle.cd_tree.specs.declared.domain.Domain.{Domain}
 use Rattle.cd_tree.specs.declared.kinds.KindName.{KindName}
-use Rattle.cd_tree.specs.Outlines.{EachFits, KindsDiffer}
+use Rattle.cd_tree.specs.TreeModel.{EachFits, KindsDiffer}
 use Rattle.cd_parse.specs.declared.draft.Stage.{Stage}
 use Rattle.cd_parse.specs.declared.draft.Stage.TheVariants.{Start, Kinds, Regions, Root, Closed, Strikes}
 use Rattle.cd_parse.specs.declared.draft.Level.{Level}
-use Rattle.cd_parse.specs.Draft.{Draft, is_start, takes_kinds, takes_regions, is_closed, has_kind_named, kind_name, four_kinds}
+use Rattle.cd_parse.specs.Draft.{DraftModel, is_start, takes_kinds, takes_regions, is_closed, has_kind_named, kind_name, four_kinds}
 use Rattle.cd_parse.specs.Sound.{IsStaged, IsSound}
 use Rattle.cd_parse.proofs.SoundLists.{push_cases, push_length}
 use Rattle.cd_parse.proofs.SoundDomains.{none_passes, bytes_same}
@@ -48,7 +48,7 @@ empty_at_regions Closed domains levels is staged = absurd (cc)
 empty_at_regions Strikes domains levels is staged = absurd (cc)
 
 -- what changes before the root
-pub sound_before : (draft : Draft) (stage : Stage) (version : ℕ) (kinds : List KindName) (regions : List Region) (words : ℕ) → IsSound draft
+pub sound_before : (draft : DraftModel) (stage : Stage) (version : ℕ) (kinds : List KindName) (regions : List Region) (words : ℕ) → IsSound draft
     → draft.domains ≡ [] → IsStaged stage draft.domains draft.levels → KindsDiffer kinds → length kinds ≤ 16
     → All (λ (region : Region). 0 < region.length) regions → length regions ≤ 64 → words ≤ 1048576
     → IsSound (record draft { stage = stage; version = version; kinds = kinds; regions = regions; words = words })
@@ -104,21 +104,21 @@ four_kinds_differ =
     kinds_pushed (kind_name (codes "flip") false ∷ kind_name (codes "lost") false ∷ kind_name (codes "link") false ∷ []) (codes "node") false link refl
 
 -- version 1 and version 2
-pub first_is_sound : (draft : Draft) → IsSound draft → is_start draft.stage ≡ true
+pub first_is_sound : (draft : DraftModel) → IsSound draft → is_start draft.stage ≡ true
     → IsSound (record draft { stage = Regions; version = 1; kinds = four_kinds })
 first_is_sound draft is start =
     let empty : Empty draft.stage draft.domains draft.levels = empty_at_start draft.stage draft.domains draft.levels start is.staged in
     sound_before draft Regions 1 four_kinds draft.regions draft.words is empty.domains_are (empty.domains_are, empty.levels_are)
     four_kinds_differ (omega arith) is.regions is.few_regions is.words
 
-pub second_is_sound : (draft : Draft) → IsSound draft → is_start draft.stage ≡ true → IsSound (record draft { stage = Kinds; version = 2 })
+pub second_is_sound : (draft : DraftModel) → IsSound draft → is_start draft.stage ≡ true → IsSound (record draft { stage = Kinds; version = 2 })
 second_is_sound draft is start =
     let empty : Empty draft.stage draft.domains draft.levels = empty_at_start draft.stage draft.domains draft.levels start is.staged in
     sound_before draft Kinds 2 draft.kinds draft.regions draft.words is empty.domains_are (empty.domains_are, empty.levels_are)
     is.kinds is.few_kinds is.regions is.few_regions is.words
 
 -- a kind more
-pub kind_is_sound : (draft : Draft) (name : List ℕ) (halts : Bool) → IsSound draft → takes_kinds draft.stage ≡ true
+pub kind_is_sound : (draft : DraftModel) (name : List ℕ) (halts : Bool) → IsSound draft → takes_kinds draft.stage ≡ true
     → has_kind_named draft.kinds name ≡ false → length draft.kinds < 16
     → IsSound (record draft { kinds = draft.kinds ++ kind_name name halts ∷ [] })
 kind_is_sound draft name halts is stage none room =
@@ -128,7 +128,7 @@ kind_is_sound draft name halts is stage none room =
     (kinds_pushed draft.kinds name halts is.kinds none) (omega arith) is.regions is.few_regions is.words
 
 -- a region more
-pub region_is_sound : (draft : Draft) (region : Region) (words : ℕ) → IsSound draft → takes_regions draft.stage ≡ true → 0 < region.length
+pub region_is_sound : (draft : DraftModel) (region : Region) (words : ℕ) → IsSound draft → takes_regions draft.stage ≡ true → 0 < region.length
     → length draft.regions < 64 → words ≤ 1048576
     → IsSound (record draft { stage = Regions; regions = draft.regions ++ region ∷ []; words = words })
 region_is_sound draft region words is stage some room few =
@@ -151,7 +151,7 @@ staged_for_strikes Root domains levels is staged = absurd (cc)
 staged_for_strikes Closed domains levels is staged = staged
 staged_for_strikes Strikes domains levels is staged = absurd (cc)
 
-pub faults_are_sound : (draft : Draft) → IsSound draft → is_closed draft.stage ≡ true → IsSound (record draft { stage = Strikes })
+pub faults_are_sound : (draft : DraftModel) → IsSound draft → is_closed draft.stage ≡ true → IsSound (record draft { stage = Strikes })
 faults_are_sound draft is closed =
     record {
       staged = staged_for_strikes draft.stage draft.domains draft.levels closed is.staged;
@@ -175,7 +175,7 @@ faults_are_sound draft is closed =
     }
 
 -- a strike more
-pub fault_is_sound : (draft : Draft) (fault : RawFault) → IsSound draft → length draft.faults < 256
+pub fault_is_sound : (draft : DraftModel) (fault : RawFault) → IsSound draft → length draft.faults < 256
     → IsSound (record draft { faults = draft.faults ++ fault ∷ [] })
 fault_is_sound draft fault is room =
     let size : length (draft.faults ++ fault ∷ []) ≡ suc (length draft.faults) = push_length draft.faults fault in

@@ -14,7 +14,7 @@ use Rattle.cd_tree.specs.Operations.{op_reads, op_writes}
 use Rattle.cd_parse.specs.declared.draft.Stage.{Stage}
 use Rattle.cd_parse.specs.declared.draft.Stage.TheVariants.{Start, Kinds, Regions, Root, Closed, Strikes}
 use Rattle.cd_parse.specs.declared.draft.Level.{Level}
-use Rattle.cd_parse.specs.Draft.{Draft, no_draft, is_start, takes_strikes, changed, with_item, with_entry, add_item, add_entry, add_domain, named, named_in, open_group, close_group, close_domain, stage_behind, has_region_named}
+use Rattle.cd_parse.specs.Draft.{DraftModel, no_draft, is_start, takes_strikes, changed, with_item, with_entry, add_item, add_entry, add_domain, named, named_in, open_group, close_group, close_domain, stage_behind, has_region_named}
 use Rattle.cd_parse.specs.Heads.{domain_named}
 use Rattle.cd_parse.specs.Sound.{IsRangeOf, IsItemOf, IsDomainOf, IsFaultOf, RegionsDiffer, IsNamed}
 use Rattle.cd_parse.proofs.SoundLists.{push_cases, push_length}
@@ -22,7 +22,7 @@ use Rattle.cd_parse.proofs.SoundDomains.{none_passes, bytes_same}
 use Rattle.cd_parse.proofs.SoundPlaces.{range_of_more, place_of_more}
 
 -- all that a draft names is there; before the first statement there is no strike
-pub record Named (draft : Draft) : Type 0 where
+pub record Named (draft : DraftModel) : Type 0 where
   pub names : IsNamed draft.kinds draft.regions draft.domains draft.faults
   pub quiet : is_start draft.stage ≡ true → draft.faults ≡ []
 
@@ -66,7 +66,7 @@ entry_of_domain regions entry domain one is =
     record { entries = all_pushed (λ (e : Entry). IsRangeOf regions e.range) domain.entries entry is.entries one; items = is.items }
 
 -- the domains of a draft change, and its stage
-pub domains_named : (draft : Draft) (stage : Stage) (domains : List Domain) (levels : List Level) (items preserves : ℕ) → Named draft
+pub domains_named : (draft : DraftModel) (stage : Stage) (domains : List Domain) (levels : List Level) (items preserves : ℕ) → Named draft
     → (is_start stage ≡ true → is_start draft.stage ≡ true) → All (IsDomainOf draft.regions) domains
     → Named (record draft { stage = stage; domains = domains; levels = levels; items = items; preserves = preserves })
 domains_named draft stage domains levels items preserves is start all =
@@ -75,28 +75,28 @@ domains_named draft stage domains levels items preserves is start all =
       quiet = λ starts. is.quiet (start starts);
     }
 
-pub op_named : (draft : Draft) (at : ℕ) (op : Op) → Named draft → All (IsRangeOf draft.regions) (op_writes op ∷ op_reads op)
+pub op_named : (draft : DraftModel) (at : ℕ) (op : Op) → Named draft → All (IsRangeOf draft.regions) (op_writes op ∷ op_reads op)
     → Named (add_item at (Run op) draft)
 op_named draft at op is known =
     domains_named draft draft.stage (changed at (with_item (Run op)) draft.domains) draft.levels (draft.items + 1) draft.preserves is (λ s. s)
     (all_changed (IsDomainOf draft.regions) at (with_item (Run op)) draft.domains (λ domain. item_of draft.regions (Run op) domain known) is.names.in_domains)
 
-pub entry_named : (draft : Draft) (at : ℕ) (entry : Entry) → Named draft → IsRangeOf draft.regions entry.range → Named (add_entry at entry draft)
+pub entry_named : (draft : DraftModel) (at : ℕ) (entry : Entry) → Named draft → IsRangeOf draft.regions entry.range → Named (add_entry at entry draft)
 entry_named draft at entry is known =
     domains_named draft draft.stage (changed at (with_entry entry) draft.domains) draft.levels draft.items (draft.preserves + 1) is (λ s. s)
     (all_changed (IsDomainOf draft.regions) at (with_entry entry) draft.domains (λ domain. entry_of_domain draft.regions entry domain known) is.names.in_domains)
 
-pub group_named : (draft : Draft) (levels : List Level) → Named draft → Named (open_group levels draft)
+pub group_named : (draft : DraftModel) (levels : List Level) → Named draft → Named (open_group levels draft)
 group_named draft [] is = is
 group_named draft (level ∷ outer) is =
     domains_named draft draft.stage draft.domains (record { domain = level.domain; group = Some [] } ∷ outer) (draft.items + 1) draft.preserves is (λ s. s) is.names.in_domains
 
-grouped : (draft : Draft) (at : ℕ) (members : List NodeId) → Named draft
+grouped : (draft : DraftModel) (at : ℕ) (members : List NodeId) → Named draft
     → All (IsDomainOf draft.regions) (changed at (with_item (Group members)) draft.domains)
 grouped draft at members is =
     all_changed (IsDomainOf draft.regions) at (with_item (Group members)) draft.domains (λ domain. item_of draft.regions (Group members) domain tt) is.names.in_domains
 
-pub closed_group_named : (draft : Draft) (at : ℕ) (members : List NodeId) (outer : List Level) → Named draft → Named (close_group at members outer draft)
+pub closed_group_named : (draft : DraftModel) (at : ℕ) (members : List NodeId) (outer : List Level) → Named draft → Named (close_group at members outer draft)
 closed_group_named draft at members outer is =
     domains_named draft draft.stage (changed at (with_item (Group members)) draft.domains) (record { domain = at; group = None } ∷ outer) draft.items draft.preserves is
     (λ s. s) (grouped draft at members is)
@@ -105,11 +105,11 @@ no_start_behind : (outer : List Level) (P : Type 0) → is_start (stage_behind o
 no_start_behind [] P start = absurd (cc)
 no_start_behind (level ∷ outer) P start = absurd (cc)
 
-pub closed_domain_named : (draft : Draft) (outer : List Level) → Named draft → Named (close_domain outer draft)
+pub closed_domain_named : (draft : DraftModel) (outer : List Level) → Named draft → Named (close_domain outer draft)
 closed_domain_named draft outer is =
     domains_named draft (stage_behind outer) draft.domains outer draft.items draft.preserves is (no_start_behind outer (is_start draft.stage ≡ true)) is.names.in_domains
 
-named_in_parent : (draft : Draft) (group : Option (List NodeId)) (parent : ℕ) (outer : List Level) (id : NodeId) → Named draft
+named_in_parent : (draft : DraftModel) (group : Option (List NodeId)) (parent : ℕ) (outer : List Level) (id : NodeId) → Named draft
     → Named (named_in group parent outer id draft)
 named_in_parent draft None parent outer id is =
     domains_named draft draft.stage (changed parent (with_item (Group (id ∷ []))) draft.domains) draft.levels (draft.items + 1) draft.preserves is (λ s. s)
@@ -118,11 +118,11 @@ named_in_parent draft (Some members) parent outer id is =
     domains_named draft draft.stage draft.domains (record { domain = parent; group = Some (members ++ id ∷ []) } ∷ outer) draft.items draft.preserves is (λ s. s)
     is.names.in_domains
 
-named_by_parent : (draft : Draft) (levels : List Level) (id : NodeId) → Named draft → Named (named levels id draft)
+named_by_parent : (draft : DraftModel) (levels : List Level) (id : NodeId) → Named draft → Named (named levels id draft)
 named_by_parent draft [] id is = is
 named_by_parent draft (level ∷ outer) id is = named_in_parent draft level.group level.domain outer id is
 
-begun_named : (draft : Draft) (at : ℕ) (name : List ℕ) (parent : Option NodeId) (tries kinds : ℕ) → Named draft
+begun_named : (draft : DraftModel) (at : ℕ) (name : List ℕ) (parent : Option NodeId) (tries kinds : ℕ) → Named draft
     → Named (record draft { stage = Root; domains = draft.domains ++ domain_named name parent tries kinds ∷ []; levels = record { domain = at; group = None } ∷ draft.levels })
 begun_named draft at name parent tries kinds is =
     let new : Domain = domain_named name parent tries kinds in
@@ -131,7 +131,7 @@ begun_named draft at name parent tries kinds is =
     domains_named draft Root (draft.domains ++ new ∷ []) (record { domain = at; group = None } ∷ draft.levels) draft.items draft.preserves is (λ s. absurd (cc))
     (all_pushed (IsDomainOf draft.regions) draft.domains new is.names.in_domains fresh)
 
-pub domain_named_is_named : (draft : Draft) (name : List ℕ) (parent : Option NodeId) (tries kinds : ℕ) → Named draft
+pub domain_named_is_named : (draft : DraftModel) (name : List ℕ) (parent : Option NodeId) (tries kinds : ℕ) → Named draft
     → Named (add_domain (domain_named name parent tries kinds) draft)
 domain_named_is_named draft name parent tries kinds is =
     begun_named (named draft.levels (record { 0 = length draft.domains }) draft) (length draft.domains) name parent tries kinds
@@ -146,7 +146,7 @@ fault_of_more_kinds kinds new regions fault is =
     let size : length (kinds ++ new ∷ []) ≡ suc (length kinds) = push_length kinds new in
     record { kind = omega arith; place = is.place }
 
-pub kind_named_is_named : (draft : Draft) (new : KindName) → Named draft → Named (record draft { kinds = draft.kinds ++ new ∷ [] })
+pub kind_named_is_named : (draft : DraftModel) (new : KindName) → Named draft → Named (record draft { kinds = draft.kinds ++ new ∷ [] })
 kind_named_is_named draft new is =
     record {
       names = record {
@@ -159,7 +159,7 @@ kind_named_is_named draft new is =
       quiet = is.quiet;
     }
 
-pub started_named : (draft : Draft) (stage : Stage) (version : ℕ) (kinds : List KindName) → Named draft → is_start draft.stage ≡ true
+pub started_named : (draft : DraftModel) (stage : Stage) (version : ℕ) (kinds : List KindName) → Named draft → is_start draft.stage ≡ true
     → Named (record draft { stage = stage; version = version; kinds = kinds })
 started_named draft stage version kinds is start =
     let none : draft.faults ≡ [] = is.quiet start in
@@ -206,7 +206,7 @@ regions_pushed regions new differ none i j one other one_is other_is same =
       ]
     ]
 
-pub region_named_is_named : (draft : Draft) (new : Region) (words : ℕ) → Named draft → has_region_named draft.regions new.name ≡ false
+pub region_named_is_named : (draft : DraftModel) (new : Region) (words : ℕ) → Named draft → has_region_named draft.regions new.name ≡ false
     → 0 < new.length → Named (record draft { stage = Regions; regions = draft.regions ++ new ∷ []; words = words })
 region_named_is_named draft new words is none some =
     let more : List Region = draft.regions ++ new ∷ [] in
@@ -223,7 +223,7 @@ region_named_is_named draft new words is none some =
 
 -- ---- strikes
 
-pub faults_named : (draft : Draft) → Named draft → Named (record draft { stage = Strikes })
+pub faults_named : (draft : DraftModel) → Named draft → Named (record draft { stage = Strikes })
 faults_named draft is = record { names = is.names; quiet = λ start. absurd (cc) }
 
 no_start : (stage : Stage) (P : Type 0) → takes_strikes stage ≡ true → is_start stage ≡ true → P
@@ -234,7 +234,7 @@ no_start Root P takes start = absurd (cc)
 no_start Closed P takes start = absurd (cc)
 no_start Strikes P takes start = absurd (cc)
 
-pub fault_named : (draft : Draft) (fault : RawFault) → Named draft → takes_strikes draft.stage ≡ true → IsFaultOf draft.kinds draft.regions fault
+pub fault_named : (draft : DraftModel) (fault : RawFault) → Named draft → takes_strikes draft.stage ≡ true → IsFaultOf draft.kinds draft.regions fault
     → Named (record draft { faults = draft.faults ++ fault ∷ [] })
 fault_named draft fault is takes one =
     record {

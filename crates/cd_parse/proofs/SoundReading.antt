@@ -2,13 +2,13 @@
 use Rattle.std.proofs.Common.{◌≡◌, ℕ, ◌+◌, ◌<◌, ◌≤◌, true, IsSomeAnd, List, [], ◌∷◌, None, Some, Ok, length, slice_get, sum_by, refl, subst, arith}
 use Rattle.cd_tree.specs.declared.document.Document.{Document}
 use Rattle.cd_tree.specs.declared.domain.Domain.{Domain}
-use Rattle.cd_tree.specs.Outlines.{IsTree}
+use Rattle.cd_tree.specs.TreeModel.{IsTree}
 use Rattle.cd_words.specs.declared.sums.Variable.{Variable}
 use Rattle.cd_words.specs.Blocks.{Block}
 use Rattle.cd_parse.specs.declared.draft.Stage.{Stage}
 use Rattle.cd_parse.specs.declared.draft.Stage.TheVariants.{Start, Kinds, Regions, Root, Closed, Strikes}
 use Rattle.cd_parse.specs.declared.draft.Level.{Level}
-use Rattle.cd_parse.specs.Draft.{Draft, may_end}
+use Rattle.cd_parse.specs.Draft.{DraftModel, may_end}
 use Rattle.cd_parse.specs.Reading.{draft_of, read, parse}
 use Rattle.cd_parse.specs.Sound.{open_groups, IsStaged, IsWalk, IsSound, IsNamed}
 use Rattle.cd_parse.proofs.SoundWalk.{walk_done}
@@ -34,7 +34,7 @@ root_there : (domains : List Domain) → 0 < length domains → ((domain : Domai
 root_there [] some root = absurd (omega arith)
 root_there (domain ∷ domains) some root = root domain refl
 
-pub sound_is_tree : (draft : Draft) → IsSound draft → may_end draft.stage ≡ true → IsTree (record { kinds = draft.kinds; domains = draft.domains })
+pub sound_is_tree : (draft : DraftModel) → IsSound draft → may_end draft.stage ≡ true → IsTree (record { kinds = draft.kinds; domains = draft.domains })
 sound_is_tree draft is ends =
     let end : (0 < length draft.domains) × (draft.levels ≡ []) = ended_stage draft.stage draft.domains draft.levels ends is.staged in
     let walk : IsWalk is.ends is.deep draft.domains [] = subst (λ (levels : List Level). IsWalk is.ends is.deep draft.domains levels) end.1 is.walk in
@@ -67,12 +67,12 @@ named_is_kept =
     record { count = λ draft number is. record { names = is.names; quiet = is.quiet }; statement = statement_keeps_named }
 
 -- reading keeps a draft sound
-pub read_keeps_sound : (block : Block) (variables : List Variable) (draft next : Draft) → IsSound draft → read block variables draft ≡ Ok next
+pub read_keeps_sound : (block : Block) (variables : List Variable) (draft next : DraftModel) → IsSound draft → read block variables draft ≡ Ok next
     → IsSound next
 read_keeps_sound block variables draft next = read_keeps IsSound sound_is_kept block variables draft next
 
 -- what a text has said at its end is a program
-pub drawn_is_tree : (bytes : List ℕ) (draft : Draft) → draft_of bytes ≡ Ok draft → IsTree (record { kinds = draft.kinds; domains = draft.domains })
+pub drawn_is_tree : (bytes : List ℕ) (draft : DraftModel) → draft_of bytes ≡ Ok draft → IsTree (record { kinds = draft.kinds; domains = draft.domains })
 drawn_is_tree bytes draft is =
     let end = drawn_keeps IsSound sound_is_kept no_draft_is_sound bytes draft is in
     sound_is_tree draft end.0 end.1

@@ -6,7 +6,7 @@ use Rattle.cd_tree.specs.declared.domain.NodeId.{NodeId}
 use Rattle.cd_tree.specs.declared.domain.Item.{Item}
 use Rattle.cd_tree.specs.declared.domain.Domain.{Domain}
 use Rattle.cd_tree.specs.declared.kinds.KindName.{KindName}
-use Rattle.cd_tree.specs.Outlines.{NamesChildren, EachFits, FitsDomain}
+use Rattle.cd_tree.specs.TreeModel.{NamesChildren, EachFits, FitsDomain}
 use Rattle.cd_parse.specs.declared.draft.Level.{Level}
 use Rattle.cd_parse.specs.Draft.{level_of, parent_of}
 use Rattle.cd_parse.specs.Sound.{ids_of, ids_in, members_in, named_by, FitsGroup, Tiles, IsLast, IsWithin, IsWalkedTo, IsShut, IsDeeper, IsLevel, EachLevel, IsWalk}

@@ -16,7 +16,7 @@ use Rattle.cd_words.specs.Sums.{is_base}
 use Rattle.cd_parse.specs.declared.draft.Stage.{Stage}
 use Rattle.cd_parse.specs.declared.draft.Stage.TheVariants.{Start, Kinds, Regions, Root, Closed, Strikes}
 use Rattle.cd_parse.specs.declared.draft.Level.{Level}
-use Rattle.cd_parse.specs.Draft.{Draft, no_draft, takes_kinds, takes_regions, is_closed, may_end, stage_behind, changed, with_item, with_entry, add_domain, named, named_in, has_kind_named, has_region_named, four_kinds}
+use Rattle.cd_parse.specs.Draft.{DraftModel, no_draft, takes_kinds, takes_regions, is_closed, may_end, stage_behind, changed, with_item, with_entry, add_domain, named, named_in, has_kind_named, has_region_named, four_kinds}
 use Rattle.cd_parse.specs.Heads.{domain_named}
 use Rattle.cd_parse.specs.Operations.{fits}
 use Rattle.cd_parse.specs.WellRead.{IsReadPattern, IsReadHow, AreReadKinds, AreReadRegions, IsReadPath, FitsVersion}
@@ -72,7 +72,7 @@ abbrev pub words_behind : ℕ → List Region → ℕ
 words_behind words [] = words
 words_behind words (region ∷ regions) = words_behind (words + region.length) regions
 
-pub record Told (draft : Draft) : Type 0 where
+pub record Told (draft : DraftModel) : Type 0 where
   pub version : StageFits draft.stage draft.version draft.kinds
   pub kinds : AreReadKinds [] draft.kinds
   pub regions : AreReadRegions [] 0 draft.regions
@@ -194,15 +194,15 @@ four_are_read = (
   ),
 )
 
-pub first_told : (draft : Draft) → Told draft → Told (record draft { stage = Regions; version = 1; kinds = four_kinds })
+pub first_told : (draft : DraftModel) → Told draft → Told (record draft { stage = Regions; version = 1; kinds = four_kinds })
 first_told draft told =
     record { version = inl (refl, refl); kinds = four_are_read; regions = told.regions; words = told.words; domains = told.domains; faults = told.faults }
 
-pub second_told : (draft : Draft) → Told draft → Told (record draft { stage = Kinds; version = 2 })
+pub second_told : (draft : DraftModel) → Told draft → Told (record draft { stage = Kinds; version = 2 })
 second_told draft told =
     record { version = refl; kinds = told.kinds; regions = told.regions; words = told.words; domains = told.domains; faults = told.faults }
 
-pub kind_told : (draft : Draft) (new : KindName) → Told draft → takes_kinds draft.stage ≡ true → is_base new.name ≡ true
+pub kind_told : (draft : DraftModel) (new : KindName) → Told draft → takes_kinds draft.stage ≡ true → is_base new.name ≡ true
     → bytes_eq new.name (codes "none") ≡ false → length new.name ≤ 32 → has_kind_named draft.kinds new.name ≡ false
     → Told (record draft { kinds = draft.kinds ++ new ∷ [] })
 kind_told draft new told takes base some short none =
@@ -215,7 +215,7 @@ kind_told draft new told takes base some short none =
       faults = told.faults;
     }
 
-pub region_told : (draft : Draft) (new : Region) → Told draft → takes_regions draft.stage ≡ true → is_base new.name ≡ true
+pub region_told : (draft : DraftModel) (new : Region) → Told draft → takes_regions draft.stage ≡ true → is_base new.name ≡ true
     → length new.name ≤ 32 → has_region_named draft.regions new.name ≡ false → 0 < new.length → draft.words + new.length ≤ 1048576
     → IsReadPattern new.pattern
     → Told (record draft { stage = Regions; regions = draft.regions ++ new ∷ []; words = draft.words + new.length })
@@ -232,7 +232,7 @@ region_told draft new told takes base short none some few pattern =
 
 -- ---- domains
 
-pub domains_told : (draft : Draft) (stage : Stage) (domains : List Domain) (levels : List Level) (items preserves : ℕ) → Told draft
+pub domains_told : (draft : DraftModel) (stage : Stage) (domains : List Domain) (levels : List Level) (items preserves : ℕ) → Told draft
     → StageFits stage draft.version draft.kinds → All DomainText domains
     → Told (record draft { stage = stage; domains = domains; levels = levels; items = items; preserves = preserves })
 domains_told draft stage domains levels items preserves told fit all =
@@ -250,11 +250,11 @@ entry_told at entry domains one all =
     all_changed DomainText at (with_entry entry) domains
     (λ domain is. record { name = is.name; short = is.short; entries = all_pushed EntryText domain.entries entry is.entries one; items = is.items }) all
 
-named_told : (draft : Draft) (levels : List Level) (id : NodeId) → Told draft → Told (named levels id draft)
+named_told : (draft : DraftModel) (levels : List Level) (id : NodeId) → Told draft → Told (named levels id draft)
 named_told draft [] id told = told
 named_told draft (level ∷ outer) id told = in_group level.group draft level.domain outer id told
   where
-    in_group : (group : Option (List NodeId)) (draft : Draft) (parent : ℕ) (outer : List Level) (id : NodeId) → Told draft
+    in_group : (group : Option (List NodeId)) (draft : DraftModel) (parent : ℕ) (outer : List Level) (id : NodeId) → Told draft
         → Told (named_in group parent outer id draft)
     in_group None draft parent outer id told =
         domains_told draft draft.stage (changed parent (with_item (Group (id ∷ []))) draft.domains) draft.levels (draft.items + 1) draft.preserves told told.version
@@ -263,7 +263,7 @@ named_told draft (level ∷ outer) id told = in_group level.group draft level.do
         domains_told draft draft.stage draft.domains (record { domain = parent; group = Some (members ++ id ∷ []) } ∷ outer) draft.items draft.preserves told
         told.version told.domains
 
-entered_told : (draft : Draft) (at : ℕ) (name : List ℕ) (parent : Option NodeId) (tries kinds : ℕ) → Told draft → FitsVersion draft.version draft.kinds
+entered_told : (draft : DraftModel) (at : ℕ) (name : List ℕ) (parent : Option NodeId) (tries kinds : ℕ) → Told draft → FitsVersion draft.version draft.kinds
     → is_base name ≡ true → length name ≤ 32
     → Told (record draft { stage = Root; domains = draft.domains ++ domain_named name parent tries kinds ∷ []; levels = record { domain = at; group = None } ∷ draft.levels })
 entered_told draft at name parent tries kinds told fit base short =
@@ -272,17 +272,17 @@ entered_told draft at name parent tries kinds told fit base short =
     domains_told draft Root (draft.domains ++ new ∷ []) (record { domain = at; group = None } ∷ draft.levels) draft.items draft.preserves told fit
     (all_pushed DomainText draft.domains new told.domains text)
 
-fits_named : (draft : Draft) (levels : List Level) (id : NodeId) → FitsVersion draft.version draft.kinds
+fits_named : (draft : DraftModel) (levels : List Level) (id : NodeId) → FitsVersion draft.version draft.kinds
     → FitsVersion (named levels id draft).version (named levels id draft).kinds
 fits_named draft [] id fit = fit
 fits_named draft (level ∷ outer) id fit = in_group level.group draft level.domain outer id fit
   where
-    in_group : (group : Option (List NodeId)) (draft : Draft) (parent : ℕ) (outer : List Level) (id : NodeId) → FitsVersion draft.version draft.kinds
+    in_group : (group : Option (List NodeId)) (draft : DraftModel) (parent : ℕ) (outer : List Level) (id : NodeId) → FitsVersion draft.version draft.kinds
         → FitsVersion (named_in group parent outer id draft).version (named_in group parent outer id draft).kinds
     in_group None draft parent outer id fit = fit
     in_group (Some members) draft parent outer id fit = fit
 
-pub domain_told : (draft : Draft) (name : List ℕ) (parent : Option NodeId) (tries kinds : ℕ) → Told draft → FitsVersion draft.version draft.kinds
+pub domain_told : (draft : DraftModel) (name : List ℕ) (parent : Option NodeId) (tries kinds : ℕ) → Told draft → FitsVersion draft.version draft.kinds
     → is_base name ≡ true → length name ≤ 32 → Told (add_domain (domain_named name parent tries kinds) draft)
 domain_told draft name parent tries kinds told fit base short =
     let id : NodeId = record { 0 = length draft.domains } in
@@ -291,7 +291,7 @@ domain_told draft name parent tries kinds told fit base short =
 
 -- ---- strikes
 
-pub fault_told : (draft : Draft) (fault : RawFault) → Told draft → FaultText fault → Told (record draft { faults = draft.faults ++ fault ∷ [] })
+pub fault_told : (draft : DraftModel) (fault : RawFault) → Told draft → FaultText fault → Told (record draft { faults = draft.faults ++ fault ∷ [] })
 fault_told draft fault told one =
     record {
       version = told.version;

@@ -25,7 +25,7 @@ use Rattle.cd_parse.specs.Operations.{op_in, fits}
 use Rattle.cd_parse.specs.Heads.{name_fits, begun, cd_in, is_kind_name, with_kind_named, kind_in, words_fit, region_of, with_region, region_statement, room_for_domain, domain_named, with_domain, domain_in, entries_of, entry_of, with_entry_of, how_in, preserve_in, group_in, ended_in, ended, end_in, faults_in, with_fault, fault_of, time_in, damage_in, strike_in}
 use Rattle.cd_parse.specs.Statements.{with_op, operation_in, statement, statement_in}
 use Rattle.cd_parse.specs.Sound.{IsStaged, IsSound}
-use Rattle.cd_parse.specs.Draft.{Draft, is_start, takes_kinds, takes_regions, takes_items, takes_entries, takes_domains, is_closed, takes_strikes, changed, with_item, with_entry, add_item, add_entry, add_domain, open_group, close_group, close_domain, stage_behind, innermost, parent_of, has_kind_named, has_region_named, has_child_named, kind_name, four_kinds}
+use Rattle.cd_parse.specs.Draft.{DraftModel, is_start, takes_kinds, takes_regions, takes_items, takes_entries, takes_domains, is_closed, takes_strikes, changed, with_item, with_entry, add_item, add_entry, add_domain, open_group, close_group, close_domain, stage_behind, innermost, parent_of, has_kind_named, has_region_named, has_child_named, kind_name, four_kinds}
 use Rattle.cd_parse.specs.WellRead.{IsReadPattern, IsReadHow, FitsVersion}
 use Rattle.cd_parse.proofs.SoundGuards.{Bound, bound, both_ok, same_ok, guard_ok, hold_ok, if_ok, if_else_err}
 use Rattle.cd_parse.proofs.SoundStatements.{Held, held, tested}
@@ -33,21 +33,21 @@ use Rattle.cd_parse.proofs.SoundOps.{Makes, op_made}
 use Rattle.cd_parse.proofs.SoundNumbers.{expression_small, pattern_read, how_read, name_is_base, path_read}
 use Rattle.cd_parse.proofs.SoundTold.{Told, OpText, FaultText, fits_regions, fits_inside, fits_closed, fits_behind, first_told, second_told, kind_told, region_told, domains_told, item_told, entry_told, domain_told, fault_told}
 
-told_as : (one next : Draft) → Told one → ◌≡◌ {A = Result Draft Wrong} (Ok one) (Ok next) → Told next
-told_as one next told is = subst Told (same_ok Draft Wrong one next is) told
+told_as : (one next : DraftModel) → Told one → ◌≡◌ {A = Result DraftModel Wrong} (Ok one) (Ok next) → Told next
+told_as one next told is = subst Told (same_ok DraftModel Wrong one next is) told
 
 -- ---- heads
 
-begun_keeps : (draft : Draft) (version : List ℕ) (next : Draft) → Told draft → begun draft version ≡ Ok next → Told next
+begun_keeps : (draft : DraftModel) (version : List ℕ) (next : DraftModel) → Told draft → begun draft version ≡ Ok next → Told next
 begun_keeps draft version next told is =
-    elim (if_ok Draft Wrong (bytes_eq version (codes "1")) (Ok (record draft { stage = Regions; version = 1; kinds = four_kinds })) _ next is) [
+    elim (if_ok DraftModel Wrong (bytes_eq version (codes "1")) (Ok (record draft { stage = Regions; version = 1; kinds = four_kinds })) _ next is) [
       | inl first ↦ told_as (record draft { stage = Regions; version = 1; kinds = four_kinds }) next (first_told draft told) first.1
       | inr other ↦
-          let second = if_else_err Draft Wrong (bytes_eq version (codes "2")) (Ok (record draft { stage = Kinds; version = 2 })) Form next other.1 in
+          let second = if_else_err DraftModel Wrong (bytes_eq version (codes "2")) (Ok (record draft { stage = Kinds; version = 2 })) Form next other.1 in
           told_as (record draft { stage = Kinds; version = 2 }) next (second_told draft told) second.1
     ]
 
-cd_told : (draft : Draft) (words : List (List ℕ)) (next : Draft) → Told draft → cd_in draft words ≡ Ok next → Told next
+cd_told : (draft : DraftModel) (words : List (List ℕ)) (next : DraftModel) → Told draft → cd_in draft words ≡ Ok next → Told next
 unfolding cd_in
 cd_told draft [] next told is = absurd (cc)
 cd_told draft (version ∷ []) next told is =
@@ -58,12 +58,12 @@ cd_told draft (version ∷ other ∷ more) next told is = absurd (cc)
 short_name : (name : List ℕ) → name_fits name ≡ Ok tt → length name ≤ 32
 short_name name is = leb-true (length name) 32 (guard_ok (nat_le (length name) 32) _ tt is)
 
-with_kind_keeps : (draft : Draft) (name : List ℕ) (halts : Bool) (next : Draft) → Told draft → with_kind_named draft name halts ≡ Ok next → Told next
+with_kind_keeps : (draft : DraftModel) (name : List ℕ) (halts : Bool) (next : DraftModel) → Told draft → with_kind_named draft name halts ≡ Ok next → Told next
 unfolding with_kind_named
 with_kind_keeps draft name halts next told is =
     let taken : Result (Unit {0}) Wrong = guard (not (has_kind_named draft.kinds name)) Taken in
     let few : Result (Unit {0}) Wrong = room which.Kinds 16 (length draft.kinds) in
-    let made : Draft = record draft { kinds = draft.kinds ++ kind_name name halts ∷ [] } in
+    let made : DraftModel = record draft { kinds = draft.kinds ++ kind_name name halts ∷ [] } in
     let rest : List (Result (Unit {0}) Wrong) = taken ∷ name_fits name ∷ few ∷ [] in
     let form = tested (takes_kinds draft.stage && is_kind_name name) (all_hold rest >>= λ _. Ok made) next is in
     let parts : Held (taken ∷ name_fits name ∷ few ∷ []) made next = held (taken ∷ name_fits name ∷ few ∷ []) made next form.1 in
@@ -75,16 +75,16 @@ with_kind_keeps draft name halts next told is =
     (kind_told draft (kind_name name halts) told stage.0 base.0 (not-true (bytes_eq name (codes "none")) base.1) (short_name name three.0)
     (not-true (has_kind_named draft.kinds name) (guard_ok _ Taken tt two.0))) parts.is
 
-kind_statement_told : (draft : Draft) (words : List (List ℕ)) (next : Draft) → Told draft → kind_in draft words ≡ Ok next → Told next
+kind_statement_told : (draft : DraftModel) (words : List (List ℕ)) (next : DraftModel) → Told draft → kind_in draft words ≡ Ok next → Told next
 unfolding kind_in
 kind_statement_told draft [] next told is = absurd (cc)
 kind_statement_told draft (name ∷ []) next told is = with_kind_keeps draft name false next told is
 kind_statement_told draft (name ∷ halt ∷ []) next told is =
-    let halts = if_else_err Draft Wrong (bytes_eq halt (codes "halt")) (with_kind_named draft name true) Form next is in
+    let halts = if_else_err DraftModel Wrong (bytes_eq halt (codes "halt")) (with_kind_named draft name true) Form next is in
     with_kind_keeps draft name true next told halts.1
 kind_statement_told draft (name ∷ halt ∷ other ∷ more) next told is = absurd (cc)
 
-with_region_keeps : (draft : Draft) (name : List ℕ) (size : ℕ) (pattern : Pattern) (next : Draft) → Told draft → takes_regions draft.stage ≡ true
+with_region_keeps : (draft : DraftModel) (name : List ℕ) (size : ℕ) (pattern : Pattern) (next : DraftModel) → Told draft → takes_regions draft.stage ≡ true
     → is_base name ≡ true → IsReadPattern pattern → with_region draft name size pattern ≡ Ok next → Told next
 unfolding with_region
 with_region_keeps draft name size pattern next told takes base read is =
@@ -92,7 +92,7 @@ with_region_keeps draft name size pattern next told takes base read is =
     let some : Result (Unit {0}) Wrong = guard (nat_lt 0 size) Unfit in
     let few : Result (Unit {0}) Wrong = room which.Regions 64 (length draft.regions) in
     let words : Result (Unit {0}) Wrong = words_fit (draft.words + size) in
-    let made : Draft =
+    let made : DraftModel =
     record draft { stage = Regions; regions = draft.regions ++ region_of name size pattern ∷ []; words = draft.words + size } in
     let parts : Held (taken ∷ some ∷ name_fits name ∷ few ∷ words ∷ []) made next = held (taken ∷ some ∷ name_fits name ∷ few ∷ words ∷ []) made next is in
     let one = hold_ok taken (some ∷ name_fits name ∷ few ∷ words ∷ []) tt parts.holds in
@@ -105,7 +105,7 @@ with_region_keeps draft name size pattern next told takes base read is =
     (not-true (has_region_named draft.regions name) (guard_ok _ Taken tt one.0)) (ltb-true 0 size (guard_ok (nat_lt 0 size) Unfit tt two.0))
     (leb-true (draft.words + size) 1048576 (guard_ok (nat_le (draft.words + size) 1048576) _ tt five.0)) read) parts.is
 
-region_statement_told : (variables : List Variable) (draft : Draft) (words : List (List ℕ)) (next : Draft) → Told draft
+region_statement_told : (variables : List Variable) (draft : DraftModel) (words : List (List ℕ)) (next : DraftModel) → Told draft
     → region_statement variables draft words ≡ Ok next → Told next
 unfolding region_statement
 region_statement_told variables draft [] next told is = absurd (cc)
@@ -114,8 +114,8 @@ region_statement_told variables draft (word ∷ size ∷ more) next told is =
     let test : Result (Unit {0}) Wrong = guard (takes_regions draft.stage) Form in
     let last : Result (ℕ × Pattern) Wrong = both (expression variables size) (pattern variables more) in
     let rest : Result (List ℕ × (ℕ × Pattern)) Wrong = both (name variables word) last in
-    let parts : Bound (Unit {0} × (List ℕ × (ℕ × Pattern))) Draft Wrong (both test rest) (λ p. with_region draft p.1.0 p.1.1.0 p.1.1.1) next =
-    bound (Unit {0} × (List ℕ × (ℕ × Pattern))) Draft Wrong (both test rest) (λ p. with_region draft p.1.0 p.1.1.0 p.1.1.1) next is in
+    let parts : Bound (Unit {0} × (List ℕ × (ℕ × Pattern))) DraftModel Wrong (both test rest) (λ p. with_region draft p.1.0 p.1.1.0 p.1.1.1) next =
+    bound (Unit {0} × (List ℕ × (ℕ × Pattern))) DraftModel Wrong (both test rest) (λ p. with_region draft p.1.0 p.1.1.0 p.1.1.1) next is in
     let v : Unit {0} × (List ℕ × (ℕ × Pattern)) = parts.value in
     let one = both_ok (Unit {0}) (List ℕ × (ℕ × Pattern)) test rest v parts.is in
     let two = both_ok (List ℕ) (ℕ × Pattern) (name variables word) last v.1 one.1 in
@@ -125,16 +125,16 @@ region_statement_told variables draft (word ∷ size ∷ more) next told is =
 
 -- ---- domains
 
-fits_takes : (draft : Draft) (levels : List Level) → IsStaged draft.stage draft.domains levels → Told draft → takes_domains draft levels ≡ true
+fits_takes : (draft : DraftModel) (levels : List Level) → IsStaged draft.stage draft.domains levels → Told draft → takes_domains draft levels ≡ true
     → FitsVersion draft.version draft.kinds
 fits_takes draft [] staged told takes = fits_regions draft.stage draft.version draft.kinds takes told.version
 fits_takes draft (level ∷ outer) staged told takes = fits_inside draft.stage draft.version draft.kinds draft.domains level outer staged told.version
 
-with_domain_keeps : (draft : Draft) (name : List ℕ) (tries set : ℕ) (next : Draft) → Told draft → FitsVersion draft.version draft.kinds
+with_domain_keeps : (draft : DraftModel) (name : List ℕ) (tries set : ℕ) (next : DraftModel) → Told draft → FitsVersion draft.version draft.kinds
     → is_base name ≡ true → with_domain draft name tries set ≡ Ok next → Told next
 unfolding with_domain
 with_domain_keeps draft name tries set next told fit base is =
-    let made : Draft = add_domain (domain_named name (parent_of draft.levels) tries set) draft in
+    let made : DraftModel = add_domain (domain_named name (parent_of draft.levels) tries set) draft in
     let taken : Result (Unit {0}) Wrong = guard (not (has_child_named draft.domains (parent_of draft.levels) name)) Taken in
     let rest : List (Result (Unit {0}) Wrong) =
     room which.Domains 2048 (length draft.domains) ∷ room which.Depth 16 (length draft.levels) ∷ room_for_domain draft.levels draft.items
@@ -144,7 +144,7 @@ with_domain_keeps draft name tries set next told fit base is =
     let two = hold_ok (name_fits name) rest tt one.1 in
     told_as made next (domain_told draft name (parent_of draft.levels) tries set told fit base (short_name name two.0)) parts.is
 
-domain_statement_told : (variables : List Variable) (draft : Draft) (words : List (List ℕ)) (next : Draft) → IsSound draft → Told draft
+domain_statement_told : (variables : List Variable) (draft : DraftModel) (words : List (List ℕ)) (next : DraftModel) → IsSound draft → Told draft
     → domain_in variables draft words ≡ Ok next → Told next
 unfolding domain_in
 domain_statement_told variables draft [] next sound told is = absurd (cc)
@@ -156,8 +156,8 @@ domain_statement_told variables draft (word ∷ retry ∷ tries ∷ detects ∷ 
     let test : Bool = takes_domains draft draft.levels && (bytes_eq retry (codes "retry") && bytes_eq detects (codes "detects")) in
     let last : Result (ℕ × ℕ) Wrong = both (expression variables tries) (kind_set draft.kinds kinds) in
     let rest : Result (List ℕ × (ℕ × ℕ)) Wrong = both (name variables word) last in
-    let parts : Bound (Unit {0} × (List ℕ × (ℕ × ℕ))) Draft Wrong (both (guard test Form) rest) (λ p. with_domain draft p.1.0 p.1.1.0 p.1.1.1) next =
-    bound (Unit {0} × (List ℕ × (ℕ × ℕ))) Draft Wrong (both (guard test Form) rest) (λ p. with_domain draft p.1.0 p.1.1.0 p.1.1.1) next is in
+    let parts : Bound (Unit {0} × (List ℕ × (ℕ × ℕ))) DraftModel Wrong (both (guard test Form) rest) (λ p. with_domain draft p.1.0 p.1.1.0 p.1.1.1) next =
+    bound (Unit {0} × (List ℕ × (ℕ × ℕ))) DraftModel Wrong (both (guard test Form) rest) (λ p. with_domain draft p.1.0 p.1.1.0 p.1.1.1) next is in
     let v : Unit {0} × (List ℕ × (ℕ × ℕ)) = parts.value in
     let one = both_ok (Unit {0}) (List ℕ × (ℕ × ℕ)) (guard test Form) rest v parts.is in
     let two = both_ok (List ℕ) (ℕ × ℕ) (name variables word) last v.1 one.1 in
@@ -166,27 +166,27 @@ domain_statement_told variables draft (word ∷ retry ∷ tries ∷ detects ∷ 
     (name_is_base variables word v.1.0 two.0) parts.next
 domain_statement_told variables draft (a ∷ b ∷ c ∷ d ∷ e ∷ f ∷ more) next sound told is = absurd (cc)
 
-with_entry_keeps : (draft : Draft) (range : Range) (how : How) (next : Draft) → Told draft → IsReadHow how → with_entry_of draft range how ≡ Ok next
+with_entry_keeps : (draft : DraftModel) (range : Range) (how : How) (next : DraftModel) → Told draft → IsReadHow how → with_entry_of draft range how ≡ Ok next
     → Told next
 unfolding with_entry_of
 with_entry_keeps draft range how next told read is =
     let at : ℕ = innermost draft.levels in
-    let made : Draft = add_entry at (entry_of range how) draft in
+    let made : DraftModel = add_entry at (entry_of range how) draft in
     let parts = held
     (room which.Entries 64 (entries_of (slice_get draft.domains at)) ∷ room which.Preserves 16384 draft.preserves ∷ []) made next is in
     told_as made next
     (domains_told draft draft.stage (changed at (with_entry (entry_of range how)) draft.domains) draft.levels draft.items (draft.preserves + 1) told told.version
     (entry_told at (entry_of range how) draft.domains read told.domains)) parts.is
 
-preserve_told : (variables : List Variable) (draft : Draft) (words : List (List ℕ)) (next : Draft) → Told draft
+preserve_told : (variables : List Variable) (draft : DraftModel) (words : List (List ℕ)) (next : DraftModel) → Told draft
     → preserve_in variables draft words ≡ Ok next → Told next
 unfolding preserve_in
 preserve_told variables draft [] next told is = absurd (cc)
 preserve_told variables draft (word ∷ more) next told is =
     let test : Result (Unit {0}) Wrong = guard (takes_entries draft draft.levels) Form in
     let rest : Result (Range × How) Wrong = both (range_in variables draft.regions word) (how_in variables more) in
-    let parts : Bound (Unit {0} × (Range × How)) Draft Wrong (both test rest) (λ p. with_entry_of draft p.1.0 p.1.1) next =
-    bound (Unit {0} × (Range × How)) Draft Wrong (both test rest) (λ p. with_entry_of draft p.1.0 p.1.1) next is in
+    let parts : Bound (Unit {0} × (Range × How)) DraftModel Wrong (both test rest) (λ p. with_entry_of draft p.1.0 p.1.1) next =
+    bound (Unit {0} × (Range × How)) DraftModel Wrong (both test rest) (λ p. with_entry_of draft p.1.0 p.1.1) next is in
     let v : Unit {0} × (Range × How) = parts.value in
     let one = both_ok (Unit {0}) (Range × How) test rest v parts.is in
     let two = both_ok Range How (range_in variables draft.regions word) (how_in variables more) v.1 one.1 in
@@ -194,7 +194,7 @@ preserve_told variables draft (word ∷ more) next told is =
 
 -- ---- operations
 
-op_text : (variables : List Variable) (draft : Draft) (keyword : List ℕ) (words : List (List ℕ)) (op : Op)
+op_text : (variables : List Variable) (draft : DraftModel) (keyword : List ℕ) (words : List (List ℕ)) (op : Op)
     → op_in variables draft.regions keyword words ≡ Ok op → OpText op
 op_text variables draft keyword words op is =
     let makes : Makes (λ _. Unit {0}) OpText =
@@ -214,11 +214,11 @@ op_text variables draft keyword words op is =
     } in
     op_made (λ _. Unit {0}) OpText makes variables draft.regions keyword words op (λ word r there. tt) is
 
-with_op_keeps : (draft : Draft) (op : Op) (next : Draft) → Told draft → OpText op → with_op draft op ≡ Ok next → Told next
+with_op_keeps : (draft : DraftModel) (op : Op) (next : DraftModel) → Told draft → OpText op → with_op draft op ≡ Ok next → Told next
 unfolding with_op
 with_op_keeps draft op next told text is =
     let at : ℕ = innermost draft.levels in
-    let made : Draft = add_item at (Run op) draft in
+    let made : DraftModel = add_item at (Run op) draft in
     let fit : Result (Unit {0}) Wrong = guard (fits op) Unfit in
     let few : Result (Unit {0}) Wrong = room which.Items 16384 draft.items in
     let parts : Held (fit ∷ few ∷ []) made next = held (fit ∷ few ∷ []) made next is in
@@ -227,33 +227,33 @@ with_op_keeps draft op next told text is =
     (domains_told draft draft.stage (changed at (with_item (Run op)) draft.domains) draft.levels (draft.items + 1) draft.preserves told told.version
     (item_told at (Run op) draft.domains (text, guard_ok (fits op) Unfit tt one.0) told.domains)) parts.is
 
-operation_told : (variables : List Variable) (draft : Draft) (keyword : List ℕ) (words : List (List ℕ)) (next : Draft) → Told draft
+operation_told : (variables : List Variable) (draft : DraftModel) (keyword : List ℕ) (words : List (List ℕ)) (next : DraftModel) → Told draft
     → operation_in variables draft keyword words ≡ Ok next → Told next
 unfolding operation_in
 operation_told variables draft keyword words next told is =
     let test : Result (Unit {0}) Wrong = guard (takes_items draft.levels) Form in
-    let parts : Bound (Unit {0} × Op) Draft Wrong (both test (op_in variables draft.regions keyword words)) (λ p. with_op draft p.1) next =
-    bound (Unit {0} × Op) Draft Wrong (both test (op_in variables draft.regions keyword words)) (λ p. with_op draft p.1) next is in
+    let parts : Bound (Unit {0} × Op) DraftModel Wrong (both test (op_in variables draft.regions keyword words)) (λ p. with_op draft p.1) next =
+    bound (Unit {0} × Op) DraftModel Wrong (both test (op_in variables draft.regions keyword words)) (λ p. with_op draft p.1) next is in
     let one = both_ok (Unit {0}) Op test (op_in variables draft.regions keyword words) parts.value parts.is in
     with_op_keeps draft parts.value.1 next told (op_text variables draft keyword words parts.value.1 one.1) parts.next
 
 -- ---- group and end
 
-opened_told : (draft : Draft) (levels : List Level) → Told draft → Told (open_group levels draft)
+opened_told : (draft : DraftModel) (levels : List Level) → Told draft → Told (open_group levels draft)
 opened_told draft [] told = told
 opened_told draft (level ∷ outer) told =
     domains_told draft draft.stage draft.domains (record { domain = level.domain; group = Some [] } ∷ outer) (draft.items + 1) draft.preserves told
     told.version told.domains
 
-group_statement_told : (draft : Draft) (words : List (List ℕ)) (next : Draft) → Told draft → group_in draft words ≡ Ok next → Told next
+group_statement_told : (draft : DraftModel) (words : List (List ℕ)) (next : DraftModel) → Told draft → group_in draft words ≡ Ok next → Told next
 unfolding group_in
 group_statement_told draft [] next told is =
-    let made : Draft = open_group draft.levels draft in
+    let made : DraftModel = open_group draft.levels draft in
     let parts = held (guard (takes_items draft.levels) Form ∷ room which.Items 16384 draft.items ∷ []) made next is in
     told_as made next (opened_told draft draft.levels told) parts.is
 group_statement_told draft (word ∷ words) next told is = absurd (cc)
 
-ended_group_told : (draft : Draft) (group : Option (List NodeId)) (at : ℕ) (outer : List Level) (next : Draft) → Told draft
+ended_group_told : (draft : DraftModel) (group : Option (List NodeId)) (at : ℕ) (outer : List Level) (next : DraftModel) → Told draft
     → FitsVersion draft.version draft.kinds → ended_in group at outer draft ≡ Ok next → Told next
 ended_group_told draft None at outer next told fit is =
     told_as (close_domain outer draft) next
@@ -264,35 +264,35 @@ ended_group_told draft (Some (first ∷ members)) at outer next told fit is =
     (domains_told draft draft.stage (changed at (with_item (Group (first ∷ members))) draft.domains) (record { domain = at; group = None } ∷ outer) draft.items
     draft.preserves told told.version (item_told at (Group (first ∷ members)) draft.domains tt told.domains)) is
 
-ended_told : (draft : Draft) (levels : List Level) (next : Draft) → IsStaged draft.stage draft.domains levels → Told draft
+ended_told : (draft : DraftModel) (levels : List Level) (next : DraftModel) → IsStaged draft.stage draft.domains levels → Told draft
     → ended levels draft ≡ Ok next → Told next
 ended_told draft [] next staged told is = absurd (cc)
 ended_told draft (level ∷ outer) next staged told is =
     ended_group_told draft level.group level.domain outer next told
     (fits_inside draft.stage draft.version draft.kinds draft.domains level outer staged told.version) is
 
-end_told : (draft : Draft) (words : List (List ℕ)) (next : Draft) → IsSound draft → Told draft → end_in draft words ≡ Ok next → Told next
+end_told : (draft : DraftModel) (words : List (List ℕ)) (next : DraftModel) → IsSound draft → Told draft → end_in draft words ≡ Ok next → Told next
 unfolding end_in
 end_told draft [] next sound told is = ended_told draft draft.levels next sound.staged told is
 end_told draft (word ∷ words) next sound told is = absurd (cc)
 
 -- ---- strikes
 
-faults_statement_told : (draft : Draft) (words : List (List ℕ)) (next : Draft) → Told draft → faults_in draft words ≡ Ok next → Told next
+faults_statement_told : (draft : DraftModel) (words : List (List ℕ)) (next : DraftModel) → Told draft → faults_in draft words ≡ Ok next → Told next
 unfolding faults_in
 faults_statement_told draft [] next told is =
-    let made : Draft = record draft { stage = Strikes } in
+    let made : DraftModel = record draft { stage = Strikes } in
     let parts = tested (is_closed draft.stage) (Ok made) next is in
     told_as made next
     (domains_told draft Strikes draft.domains draft.levels draft.items draft.preserves told
     (fits_closed draft.stage draft.version draft.kinds parts.0 told.version) told.domains) parts.1
 faults_statement_told draft (word ∷ words) next told is = absurd (cc)
 
-with_fault_keeps : (draft : Draft) (fault : RawFault) (next : Draft) → Told draft → FaultText fault → with_fault draft fault ≡ Ok next → Told next
+with_fault_keeps : (draft : DraftModel) (fault : RawFault) (next : DraftModel) → Told draft → FaultText fault → with_fault draft fault ≡ Ok next → Told next
 with_fault_keeps draft fault next told text is =
     let few : Result (Unit {0}) Wrong = room which.Faults 256 (length draft.faults) in
-    let made : Draft = record draft { faults = draft.faults ++ fault ∷ [] } in
-    let parts : Bound (Unit {0}) Draft Wrong few (λ _. Ok made) next = bound (Unit {0}) Draft Wrong few (λ _. Ok made) next is in
+    let made : DraftModel = record draft { faults = draft.faults ++ fault ∷ [] } in
+    let parts : Bound (Unit {0}) DraftModel Wrong few (λ _. Ok made) next = bound (Unit {0}) DraftModel Wrong few (λ _. Ok made) next is in
     told_as made next (fault_told draft fault told text) parts.next
 
 times_small : (variables : List Variable) (begin point : List ℕ) (p : ℕ × ℕ) → time_in variables begin point ≡ Ok p → (p.0 < 2 ^ 64) × (p.1 < 2 ^ 64)
@@ -301,7 +301,7 @@ times_small variables begin point p is =
     let two = both_ok ℕ ℕ (expression variables begin) (expression variables point) p is in
     (expression_small variables begin p.0 two.0, expression_small variables point p.1 two.1)
 
-mask_small : (variables : List Variable) (draft : Draft) (word place mask : List ℕ) (p : Kind × (Place × ℕ)) → damage_in variables draft word place mask ≡ Ok p
+mask_small : (variables : List Variable) (draft : DraftModel) (word place mask : List ℕ) (p : Kind × (Place × ℕ)) → damage_in variables draft word place mask ≡ Ok p
     → p.1.1 < 2 ^ 64
 unfolding damage_in
 mask_small variables draft word place mask p is =
@@ -309,7 +309,7 @@ mask_small variables draft word place mask p is =
     let two = both_ok Place ℕ (place_in variables draft.regions place) (expression variables mask) p.1 one.1 in
     expression_small variables mask p.1.1 two.1
 
-strike_told : (variables : List Variable) (draft : Draft) (words : List (List ℕ)) (next : Draft) → Told draft
+strike_told : (variables : List Variable) (draft : DraftModel) (words : List (List ℕ)) (next : DraftModel) → Told draft
     → strike_in variables draft words ≡ Ok next → Told next
 unfolding strike_in
 strike_told variables draft [] next told is = absurd (cc)
@@ -323,10 +323,10 @@ strike_told variables draft (domain ∷ begin ∷ point ∷ word ∷ place ∷ m
     let damage : Result (Kind × (Place × ℕ)) Wrong = damage_in variables draft word place mask in
     let time : Result (ℕ × ℕ) Wrong = time_in variables begin point in
     let rest : Result (List ℕ × ((ℕ × ℕ) × (Kind × (Place × ℕ)))) Wrong = both (path variables domain) (both time damage) in
-    let step : Unit {0} × (List ℕ × ((ℕ × ℕ) × (Kind × (Place × ℕ)))) → Result Draft Wrong =
+    let step : Unit {0} × (List ℕ × ((ℕ × ℕ) × (Kind × (Place × ℕ)))) → Result DraftModel Wrong =
     λ p. with_fault draft (fault_of p.1.0 p.1.1.0.0 p.1.1.0.1 p.1.1.1.0 p.1.1.1.1.0 p.1.1.1.1.1) in
-    let parts : Bound (Unit {0} × (List ℕ × ((ℕ × ℕ) × (Kind × (Place × ℕ))))) Draft Wrong (both test rest) step next =
-    bound (Unit {0} × (List ℕ × ((ℕ × ℕ) × (Kind × (Place × ℕ))))) Draft Wrong (both test rest) step next is in
+    let parts : Bound (Unit {0} × (List ℕ × ((ℕ × ℕ) × (Kind × (Place × ℕ))))) DraftModel Wrong (both test rest) step next =
+    bound (Unit {0} × (List ℕ × ((ℕ × ℕ) × (Kind × (Place × ℕ))))) DraftModel Wrong (both test rest) step next is in
     let v : Unit {0} × (List ℕ × ((ℕ × ℕ) × (Kind × (Place × ℕ)))) = parts.value in
     let one = both_ok (Unit {0}) (List ℕ × ((ℕ × ℕ) × (Kind × (Place × ℕ)))) test rest v parts.is in
     let two = both_ok (List ℕ) ((ℕ × ℕ) × (Kind × (Place × ℕ))) (path variables domain) (both time damage) v.1 one.1 in
@@ -343,12 +343,12 @@ strike_told variables draft (a ∷ b ∷ c ∷ d ∷ e ∷ f ∷ g ∷ more) nex
 
 -- ---- every statement
 
-chosen_told : (test : Bool) (one other : Result Draft Wrong) (next : Draft) → (one ≡ Ok next → Told next) → (other ≡ Ok next → Told next)
+chosen_told : (test : Bool) (one other : Result DraftModel Wrong) (next : DraftModel) → (one ≡ Ok next → Told next) → (other ≡ Ok next → Told next)
     → (if test then one else other) ≡ Ok next → Told next
 chosen_told true one other next first second is = first is
 chosen_told false one other next first second is = second is
 
-by_word_told : (variables : List Variable) (draft : Draft) (keyword : List ℕ) (words : List (List ℕ)) (next : Draft) → IsSound draft → Told draft
+by_word_told : (variables : List Variable) (draft : DraftModel) (keyword : List ℕ) (words : List (List ℕ)) (next : DraftModel) → IsSound draft → Told draft
     → statement variables draft keyword words ≡ Ok next → Told next
 unfolding statement
 by_word_told variables draft keyword words next sound told is =
@@ -365,7 +365,7 @@ by_word_told variables draft keyword words next sound told is =
     (operation_told variables draft keyword words next told))))))))) is
 
 -- a statement says only what a text can say
-pub statement_keeps_told : (variables : List Variable) (words : List (List ℕ)) (draft next : Draft) → IsSound draft → Told draft
+pub statement_keeps_told : (variables : List Variable) (words : List (List ℕ)) (draft next : DraftModel) → IsSound draft → Told draft
     → statement_in variables words draft ≡ Ok next → Told next
 unfolding statement_in
 statement_keeps_told variables [] draft next sound told is = absurd (cc)

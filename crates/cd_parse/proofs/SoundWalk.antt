@@ -7,7 +7,7 @@ use Rattle.cd_tree.specs.declared.domain.Item.TheVariants.{Run, Group}
 use Rattle.cd_tree.specs.declared.domain.Domain.{Domain}
 use Rattle.cd_tree.specs.declared.kinds.KindName.{KindName}
 use Rattle.cd_tree.specs.Domains.{Node, put_first, members_by, body_by, nodes_from, root_of, node_numbers, body_numbers, member_numbers, node_depth, body_depth, members_depth, numbers_from}
-use Rattle.cd_tree.specs.Outlines.{NamesChildren, FitsItems, EachFits}
+use Rattle.cd_tree.specs.TreeModel.{NamesChildren, FitsItems, EachFits}
 use Rattle.cd_parse.specs.Sound.{ids_of, Tiles, IsDeeper, IsWalk}
 
 pub names_append : (domains : List Domain) (at : ℕ) (ids others : List NodeId) → NamesChildren domains at ids → NamesChildren domains at others

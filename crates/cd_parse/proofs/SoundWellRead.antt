@@ -15,7 +15,7 @@ use Rattle.cd_tree.specs.declared.operation.Op.{Op}
 use Rattle.cd_tree.specs.declared.operation.Op.TheVariants.{Fill, Copy, Add, Sub, Mul, Axpy, Scan, Sum, Dot, Max, Stencil, Spmv}
 use Rattle.cd_tree.specs.Operations.{op_reads, op_writes}
 use Rattle.cd_words.specs.Sums.{is_base}
-use Rattle.cd_parse.specs.Draft.{Draft, no_draft, document_of, has_region_named}
+use Rattle.cd_parse.specs.Draft.{DraftModel, no_draft, document_of, has_region_named}
 use Rattle.cd_parse.specs.Operations.{fits}
 use Rattle.cd_parse.specs.Reading.{parse}
 use Rattle.cd_parse.specs.Sound.{IsRangeOf, IsPlaceOf, IsItemOf, IsDomainOf, IsFaultOf, IsSound}
@@ -195,7 +195,7 @@ faults_read regions kinds read (fault ∷ faults) known text = (
 -- ---- the whole document
 
 -- all that reading keeps
-pub record Keeping (draft : Draft) : Type 0 where
+pub record Keeping (draft : DraftModel) : Type 0 where
   pub sound : IsSound draft
   pub named : Named draft
   pub told : Told draft
@@ -229,7 +229,7 @@ pub parsed_is_well_read : (bytes : List ℕ) (document : Document) → parse byt
 parsed_is_well_read bytes document is =
     let start : Keeping no_draft = record { sound = no_draft_is_sound; named = no_draft_is_named; told = no_draft_is_told } in
     let from : Draws Keeping document = parsed_draws Keeping keeping_is_kept start bytes document is in
-    let draft : Draft = from.draft in
+    let draft : DraftModel = from.draft in
     let sound : IsSound draft = from.holds.sound in
     let named : Named draft = from.holds.named in
     let told : Told draft = from.holds.told in

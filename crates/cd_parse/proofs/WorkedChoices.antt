@@ -14,7 +14,7 @@ use Rattle.cd_words.specs.Sums.{atom, times, term, plus, expression, bounds}
 use Rattle.cd_words.specs.Names.{name, path}
 use Rattle.cd_words.specs.Kinds.{kind, kind_set, pattern}
 use Rattle.cd_parse.specs.declared.draft.Stage.TheVariants.{Kinds, Root}
-use Rattle.cd_parse.specs.Draft.{Draft, no_draft, level_of, kind_name}
+use Rattle.cd_parse.specs.Draft.{DraftModel, no_draft, level_of, kind_name}
 use Rattle.cd_parse.specs.Ranges.{region_in, range_in, place_in}
 use Rattle.cd_parse.specs.Operations.{fill_in, op_in}
 use Rattle.cd_parse.specs.Heads.{cd_in, with_kind_named, kind_in, with_region, region_statement, with_domain, domain_in, with_entry_of, how_in, preserve_in, group_in, end_in, faults_in, time_in, damage_in, strike_in}
@@ -88,7 +88,7 @@ kinds = refl
 
 -- ---- limits, of one statement
 
-abbrev sixteen_kinds : Draft
+abbrev sixteen_kinds : DraftModel
 sixteen_kinds = record no_draft { stage = Kinds; version = 2; kinds = replicate 16 (kind_name (codes "seu") false) }
 
 -- a name that is taken comes before the limit on kinds, and a name that is too long too
@@ -97,7 +97,7 @@ kinds_17 : map (kind_in sixteen_kinds) ((codes "seu" ∷ []) ∷ (codes "hang" �
 unfolding kind_in with_kind_named
 kinds_17 = refl
 
-abbrev at_root : Draft
+abbrev at_root : DraftModel
 at_root =
     record no_draft { stage = Root; domains = domain (codes "root") None 1 0 [] [] ∷ []; levels = level_of 0 None ∷ [] }
 

@@ -17,7 +17,7 @@ use Rattle.cd_parse.specs.declared.draft.Level.{Level}
 
 -- what the statements so far have said; the domains stand in preorder, with all groups that are closed, and the levels
 -- are the domains that are open, the innermost first; beside them the sums that limits are about
-pub record Draft : Type 0 where
+pub record DraftModel : Type 0 where
   -- statements and turns of loops
   pub lines : ℕ
   pub stage : Stage
@@ -35,7 +35,7 @@ pub record Draft : Type 0 where
   pub faults : List RawFault
 
 -- before the first statement
-abbrev pub no_draft : Draft
+abbrev pub no_draft : DraftModel
 no_draft =
     record { lines = 0; stage = Start; version = 1; kinds = []; regions = []; words = 0; domains = []; levels = []; items = 0; preserves = 0; faults = [] }
 
@@ -83,13 +83,13 @@ is_empty_body None = false
 is_empty_body (Some domain) = length domain.items == 0
 
 -- in a domain, before its first item
-abbrev pub takes_entries : Draft → List Level → Bool
+abbrev pub takes_entries : DraftModel → List Level → Bool
 takes_entries draft [] = false
 takes_entries draft (level ∷ outer) =
     not (is_open level.group) && is_empty_body (slice_get draft.domains level.domain)
 
 -- in a domain or a group, or where the root may stand
-abbrev pub takes_domains : Draft → List Level → Bool
+abbrev pub takes_domains : DraftModel → List Level → Bool
 takes_domains draft [] = takes_regions draft.stage
 takes_domains draft (level ∷ outer) = true
 
@@ -107,11 +107,11 @@ abbrev pub with_entry : Entry → Domain → Domain
 with_entry entry domain = record domain { entries = domain.entries ++ entry ∷ [] }
 
 -- one item more in domain `at`
-abbrev pub add_item : ℕ → Item → Draft → Draft
+abbrev pub add_item : ℕ → Item → DraftModel → DraftModel
 add_item at item draft = record draft { domains = changed at (with_item item) draft.domains; items = draft.items + 1 }
 
 -- one entry more in domain `at`
-abbrev pub add_entry : ℕ → Entry → Draft → Draft
+abbrev pub add_entry : ℕ → Entry → DraftModel → DraftModel
 add_entry at entry draft = record draft { domains = changed at (with_entry entry) draft.domains; preserves = draft.preserves + 1 }
 
 -- ---- domains and groups that open and close
@@ -129,34 +129,34 @@ abbrev pub level_of : ℕ → Option (List NodeId) → Level
 level_of at group = record { domain = at; group = group }
 
 -- the domain with this number is a group of its own in its parent, or one more member of the group that is open there
-abbrev pub named_in : Option (List NodeId) → ℕ → List Level → NodeId → Draft → Draft
+abbrev pub named_in : Option (List NodeId) → ℕ → List Level → NodeId → DraftModel → DraftModel
 named_in None parent outer id draft = add_item parent (Group (id ∷ [])) draft
 named_in (Some members) parent outer id draft =
     record draft { levels = level_of parent (Some (members ++ id ∷ [])) ∷ outer }
 
 -- nothing names the root
-abbrev pub named : List Level → NodeId → Draft → Draft
+abbrev pub named : List Level → NodeId → DraftModel → DraftModel
 named [] id draft = draft
 named (level ∷ outer) id draft = named_in level.group level.domain outer id draft
 
 -- a domain that its parent names is the last in preorder, and is open
-abbrev pub entered : ℕ → Domain → Draft → Draft
+abbrev pub entered : ℕ → Domain → DraftModel → DraftModel
 entered at domain draft =
     record draft { stage = Root; domains = draft.domains ++ domain ∷ []; levels = level_of at None ∷ draft.levels }
 
 -- one domain more, which is open
-abbrev pub add_domain : Domain → Draft → Draft
+abbrev pub add_domain : Domain → DraftModel → DraftModel
 add_domain domain draft =
     entered (length draft.domains) domain (named draft.levels (record { 0 = length draft.domains }) draft)
 
 -- a group opens in the innermost domain, and counts as an item of it
-abbrev pub open_group : List Level → Draft → Draft
+abbrev pub open_group : List Level → DraftModel → DraftModel
 open_group [] draft = draft
 open_group (level ∷ outer) draft =
     record draft { levels = level_of level.domain (Some []) ∷ outer; items = draft.items + 1 }
 
 -- a group closes, and is an item of its domain
-abbrev pub close_group : ℕ → List NodeId → List Level → Draft → Draft
+abbrev pub close_group : ℕ → List NodeId → List Level → DraftModel → DraftModel
 close_group at members outer draft =
     record draft { domains = changed at (with_item (Group members)) draft.domains; levels = level_of at None ∷ outer }
 
@@ -165,7 +165,7 @@ abbrev pub stage_behind : List Level → Stage
 stage_behind [] = Closed
 stage_behind (level ∷ outer) = Root
 
-abbrev pub close_domain : List Level → Draft → Draft
+abbrev pub close_domain : List Level → DraftModel → DraftModel
 close_domain outer draft = record draft { stage = stage_behind outer; levels = outer }
 
 -- ---- names that are taken
@@ -197,6 +197,6 @@ four_kinds =
     kind_name (codes "flip") false ∷ kind_name (codes "lost") false ∷ kind_name (codes "link") false
     ∷ kind_name (codes "node") false ∷ []
 
-abbrev pub document_of : Draft → Document
+abbrev pub document_of : DraftModel → Document
 document_of draft =
     record { version = draft.version; regions = draft.regions; tree = record { kinds = draft.kinds; domains = draft.domains }; faults = draft.faults }

@@ -5,7 +5,7 @@ use Rattle.cd_words.specs.declared.sums.Variable.{Variable}
 use Rattle.cd_words.specs.Wrongs.{◌>>=◌}
 use Rattle.cd_words.specs.Lines.{lines}
 use Rattle.cd_words.specs.Blocks.{Block}
-use Rattle.cd_parse.specs.Draft.{Draft}
+use Rattle.cd_parse.specs.Draft.{DraftModel}
 use Rattle.cd_parse.specs.Reading.{read, parse}
 use Rattle.cd_parse.specs.Unrolled.{steps, in_order, text_steps, document_by}
 use Rattle.cd_parse.specs.WellRead.{WellRead}
@@ -16,7 +16,7 @@ ParsedIsWellRead = (bytes : List ℕ) (document : Document) → parse bytes ≡ 
 
 -- to read a block is to take, in order, the steps that it stands for, up to the first refusal
 abbrev pub ReadingIsTakingSteps : Type 0
-ReadingIsTakingSteps = (block : Block) (variables : List Variable) (draft : Draft) → read block variables draft ≡ in_order (steps block variables) draft
+ReadingIsTakingSteps = (block : Block) (variables : List Variable) (draft : DraftModel) → read block variables draft ≡ in_order (steps block variables) draft
 
 -- the document that a text is, is what the steps make that the text stands for
 abbrev pub ParsingIsTakingSteps : Type 0

@@ -3,6 +3,7 @@
 use Rattle.std.specs.Prelude.{ℕ, zero, suc, ◌+◌, ◌-◌, Bool, ◌&&◌, not, nat_lt, List, [], ◌∷◌, ◌++◌, length, Result, Ok, Err, codes, if◌then◌else◌}
 use Rattle.std.specs.List.{list_any}
 use Rattle.std.specs.Str.{bytes_eq}
+use Rattle.cd_tree.specs.Limits.{lines_limit, nesting_limit}
 use Rattle.cd_tree.specs.declared.document.Document.{Document}
 use Rattle.cd_tree.specs.declared.refusal.Refusal.{Refusal}
 use Rattle.cd_tree.specs.declared.refusal.Refusal.TheVariants as refusal
@@ -15,18 +16,18 @@ use Rattle.cd_words.specs.Wrongs.{both, guard, room, at_line, ◌>>=◌}
 use Rattle.cd_words.specs.Lines.{lines}
 use Rattle.cd_words.specs.Blocks.{marked_lines, Block, stop, says, repeats, here, blocks}
 use Rattle.cd_words.specs.Sums.{is_base, bounds}
-use Rattle.cd_parse.specs.Draft.{Draft, no_draft, may_end, document_of}
+use Rattle.cd_parse.specs.Draft.{DraftModel, no_draft, may_end, document_of}
 use Rattle.cd_parse.specs.Statements.{statement_in}
 
 -- each statement and each turn of a loop counts one, before it is looked at
-abbrev pub counted : Draft → Result Draft Refusal
+abbrev pub counted : DraftModel → Result DraftModel Refusal
 counted draft =
-    if nat_lt draft.lines 65536
+    if nat_lt draft.lines lines_limit
     then Ok (record draft { lines = draft.lines + 1 })
-    else Err (refusal.Limit Lines 65537)
+    else Err (refusal.Limit Lines (lines_limit + 1))
 
 -- a statement, at its line
-unfoldable pub taken : List Variable → Line → Draft → Result Draft Refusal
+unfoldable pub taken : List Variable → Line → DraftModel → Result DraftModel Refusal
 taken variables line draft = counted draft >>= λ next. at_line line.number (statement_in variables line.words next)
 
 -- ---- loops
@@ -43,16 +44,16 @@ pub record Loop : Type 0 where
 abbrev pub loop_of : List ℕ → ℕ × ℕ → Loop
 loop_of variable bounds = record { variable = variable; low = bounds.0; high = bounds.1 }
 
--- the variable is no other's, and at most 15 loops stand around
+-- the variable is no other's, and not too many loops stand around
 abbrev pub loop_limits : List Variable → List ℕ → Result (Unit {0} × Unit {0}) Wrong
 loop_limits variables variable =
-    both (guard (not (is_variable variables variable)) Taken) (room Nesting 16 (length variables))
+    both (guard (not (is_variable variables variable)) Taken) (room Nesting nesting_limit (length variables))
 
 -- the bounds among the parts of a loop's line
 abbrev pub bounds_part : Result (Unit {0} × ((ℕ × ℕ) × (Unit {0} × Unit {0}))) Wrong → Result (ℕ × ℕ) Wrong
 bounds_part parts = parts >>= λ p. Ok p.1.0
 
--- the bounds of a loop, within at most 15 other loops that have other variables
+-- the bounds of a loop, within not too many other loops that have other variables
 abbrev pub loop_bounds : List Variable → List ℕ → List ℕ → List ℕ → Result (ℕ × ℕ) Wrong
 loop_bounds variables variable among numbers =
     bounds_part
@@ -69,21 +70,21 @@ abbrev pub variable_of : List ℕ → ℕ → Variable
 variable_of name value = record { name = name; value = value }
 
 -- the turns of a loop with these values of its variable: `value` and on, so many
-abbrev pub turns : (List Variable → Draft → Result Draft Refusal) → List Variable → List ℕ → ℕ → ℕ → Draft → Result Draft Refusal
+abbrev pub turns : (List Variable → DraftModel → Result DraftModel Refusal) → List Variable → List ℕ → ℕ → ℕ → DraftModel → Result DraftModel Refusal
 turns body variables name value zero draft = Ok draft
 turns body variables name value (suc more) draft =
     counted draft >>= body (variables ++ variable_of name value ∷ []) >>= turns body variables name (value + 1) more
 
-abbrev pub all_turns : (List Variable → Draft → Result Draft Refusal) → List Variable → Loop → Draft → Result Draft Refusal
+abbrev pub all_turns : (List Variable → DraftModel → Result DraftModel Refusal) → List Variable → Loop → DraftModel → Result DraftModel Refusal
 all_turns body variables loop draft = turns body variables loop.variable loop.low (loop.high - loop.low) draft
 
 -- a loop, whose line is read as a statement is, but not counted
-unfoldable pub looped : (List Variable → Draft → Result Draft Refusal) → List Variable → Line → Draft → Result Draft Refusal
+unfoldable pub looped : (List Variable → DraftModel → Result DraftModel Refusal) → List Variable → Line → DraftModel → Result DraftModel Refusal
 looped body variables line draft =
     at_line line.number (loop_in variables line.words) >>= λ loop. all_turns body variables loop draft
 
 -- a block, with the variables of the loops around it
-unfoldable pub read : Block → List Variable → Draft → Result Draft Refusal
+unfoldable pub read : Block → List Variable → DraftModel → Result DraftModel Refusal
 read stop variables draft = Ok draft
 read (says line rest) variables draft = taken variables line draft >>= λ next. read rest variables next
 read (repeats line body rest) variables draft =
@@ -92,11 +93,11 @@ read (repeats line body rest) variables draft =
 -- ---- the whole text
 
 -- behind the last statement the root is closed, else something is missing behind the last line
-abbrev pub ended : ℕ → Draft → Result Draft Refusal
+abbrev pub ended : ℕ → DraftModel → Result DraftModel Refusal
 ended number draft = if may_end draft.stage then Ok draft else Err (refusal.Line number)
 
 -- what a text has said at its end, or why it is no document
-abbrev pub draft_of : List ℕ → Result Draft Refusal
+abbrev pub draft_of : List ℕ → Result DraftModel Refusal
 draft_of bytes =
     marked_lines bytes >>= λ ls. read (here (blocks ls)) [] no_draft >>= ended (length (lines bytes) + 1)
 

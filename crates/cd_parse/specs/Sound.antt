@@ -3,6 +3,7 @@
 use Rattle.std.specs.Prelude.{◌≡◌, ℕ, suc, ◌+◌, ◌<◌, ◌≤◌, List, [], ◌∷◌, ◌++◌, None, Some, Option, length, slice_get, sum_by, All, IsSomeAnd}
 use Rattle.cd_base.specs.declared.place.Place.{Place}
 use Rattle.cd_base.specs.declared.place.Range.{Range}
+use Rattle.cd_tree.specs.Limits.{members_limit, depth_limit, kinds_limit, domains_limit, items_limit, preserves_limit, regions_limit, words_limit, faults_limit}
 use Rattle.cd_tree.specs.declared.document.RawFault.{RawFault}
 use Rattle.cd_tree.specs.declared.document.Region.{Region}
 use Rattle.cd_tree.specs.declared.domain.NodeId.{NodeId}
@@ -12,11 +13,11 @@ use Rattle.cd_tree.specs.declared.domain.Domain.{Domain}
 use Rattle.cd_tree.specs.declared.domain.Entry.{Entry}
 use Rattle.cd_tree.specs.declared.kinds.KindName.{KindName}
 use Rattle.cd_tree.specs.Operations.{op_reads, op_writes}
-use Rattle.cd_tree.specs.Outlines.{EachFits, SiblingsDiffer, KindsDiffer, NamesChildren}
+use Rattle.cd_tree.specs.TreeModel.{EachFits, SiblingsDiffer, KindsDiffer, NamesChildren}
 use Rattle.cd_parse.specs.declared.draft.Stage.{Stage}
 use Rattle.cd_parse.specs.declared.draft.Stage.TheVariants.{Start, Kinds, Regions, Root, Closed, Strikes}
 use Rattle.cd_parse.specs.declared.draft.Level.{Level}
-use Rattle.cd_parse.specs.Draft.{Draft, parent_of}
+use Rattle.cd_parse.specs.Draft.{DraftModel, parent_of}
 
 abbrev pub one_group : Option (List NodeId) → ℕ
 one_group None = 0
@@ -47,10 +48,10 @@ members_in (Some members) = members
 abbrev pub named_by : List Domain → Level → List NodeId
 named_by domains level = ids_in (slice_get domains level.domain) ++ members_in level.group
 
--- the members so far of a group that is open are children of its domain, at most 256
+-- the members so far of a group that is open are children of its domain, not too many
 abbrev pub FitsGroup : List Domain → ℕ → Option (List NodeId) → Type 0
 FitsGroup domains at None = Unit {0}
-FitsGroup domains at (Some members) = NamesChildren domains at members × (length members ≤ 256)
+FitsGroup domains at (Some members) = NamesChildren domains at members × (length members ≤ members_limit)
 
 -- ---- the walk
 
@@ -101,13 +102,13 @@ EachLevel deep domains [] = Unit {0}
 EachLevel deep domains (level ∷ outer) = IsLevel deep domains level outer × EachLevel deep domains outer
 
 -- with `ends at` the number behind the last that stands below a domain that is closed, and `deep at` how deep a domain
--- stands: the domains so far are met in preorder, at most 16 inside each other
+-- stands: the domains so far are met in preorder, not too many inside each other
 pub record IsWalk (ends deep : ℕ → ℕ) (domains : List Domain) (levels : List Level) : Type 0 where
   pub walked : IsWalkedTo ends domains levels
   pub shut : (at : ℕ) (domain : Domain) → slice_get domains at ≡ Some domain → IsShut at levels
       → Tiles ends (suc at) (ids_of domain.items) (ends at)
   pub deeper : (at : ℕ) (domain : Domain) → slice_get domains at ≡ Some domain → IsDeeper deep at domain.parent
-  pub depth : (at : ℕ) → (0 < deep at) × (deep at ≤ 16)
+  pub depth : (at : ℕ) → (0 < deep at) × (deep at ≤ depth_limit)
   pub root : (domain : Domain) → slice_get domains 0 ≡ Some domain → domain.parent ≡ None
   pub each : EachLevel deep domains levels
 
@@ -123,7 +124,7 @@ IsStaged Closed domains levels = (0 < length domains) × (levels ≡ [])
 IsStaged Strikes domains levels = (0 < length domains) × (levels ≡ [])
 
 -- all that a program has to be, but for the groups that are open
-pub record IsSound (draft : Draft) : Type 0 where
+pub record IsSound (draft : DraftModel) : Type 0 where
   pub staged : IsStaged draft.stage draft.domains draft.levels
   pub ends : ℕ → ℕ
   pub deep : ℕ → ℕ
@@ -131,17 +132,17 @@ pub record IsSound (draft : Draft) : Type 0 where
   pub each : EachFits draft.kinds draft.domains 0 draft.domains
   pub siblings : SiblingsDiffer draft.domains
   pub kinds : KindsDiffer draft.kinds
-  pub few_kinds : length draft.kinds ≤ 16
-  pub few : length draft.domains ≤ 2048
-  pub deep_levels : length draft.levels ≤ 16
+  pub few_kinds : length draft.kinds ≤ kinds_limit
+  pub few : length draft.domains ≤ domains_limit
+  pub deep_levels : length draft.levels ≤ depth_limit
   pub items : sum_by (λ (domain : Domain). length domain.items) draft.domains + open_groups draft.levels ≡ draft.items
-  pub few_items : draft.items ≤ 16384
+  pub few_items : draft.items ≤ items_limit
   pub preserves : sum_by (λ (domain : Domain). length domain.entries) draft.domains ≡ draft.preserves
-  pub few_preserves : draft.preserves ≤ 16384
+  pub few_preserves : draft.preserves ≤ preserves_limit
   pub regions : All (λ (region : Region). 0 < region.length) draft.regions
-  pub few_regions : length draft.regions ≤ 64
-  pub words : draft.words ≤ 1048576
-  pub few_faults : length draft.faults ≤ 256
+  pub few_regions : length draft.regions ≤ regions_limit
+  pub words : draft.words ≤ words_limit
+  pub few_faults : length draft.faults ≤ faults_limit
 
 -- ---- what a document names is there
 

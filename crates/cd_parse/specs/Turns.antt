@@ -4,7 +4,7 @@ use Rattle.cd_words.specs.declared.lines.Line.{Line}
 use Rattle.cd_words.specs.declared.sums.Variable.{Variable}
 use Rattle.cd_words.specs.Blocks.{here, blocks}
 use Rattle.cd_tree.specs.declared.refusal.Refusal.{Refusal}
-use Rattle.cd_parse.specs.Draft.{Draft}
+use Rattle.cd_parse.specs.Draft.{DraftModel}
 use Rattle.cd_tree.specs.declared.refusal.Refuse.{Refuse}
 use Rattle.cd_words.specs.declared.wrong.Wrong.{Wrong}
 use Rattle.cd_words.specs.Wrongs.{◌>>=◌}
@@ -21,15 +21,15 @@ ReadsLoop variables words (Ok header) = loop_in variables words ≡ Ok (loop_as 
 ReadsLoop variables words (Err wrong) = loop_in variables words ≡ Err wrong
 
 -- the reading from this line on, to the end of its block
-abbrev pub read_from : List Line → ℕ → List Variable → Draft → Result Draft Refusal
+abbrev pub read_from : List Line → ℕ → List Variable → DraftModel → Result DraftModel Refusal
 read_from lines at variables draft = read (here (blocks (drop at lines))) variables draft
 
 -- one turn of a loop whose body begins at this line
-abbrev pub turn_from : List Line → ℕ → List Variable → List ℕ → ℕ → Draft → Result Draft Refusal
+abbrev pub turn_from : List Line → ℕ → List Variable → List ℕ → ℕ → DraftModel → Result DraftModel Refusal
 turn_from lines at variables name value draft =
     counted draft >>= read_from lines at (variables ++ variable_of name value ∷ [])
 
 -- the draft is the reading's, and the name comes back
-abbrev pub ReadsTurn : Draft → List ℕ → Result (List ℕ) Refuse → Result Draft Refusal → Type 0
+abbrev pub ReadsTurn : DraftModel → List ℕ → Result (List ℕ) Refuse → Result DraftModel Refusal → Type 0
 ReadsTurn new name (Ok back) reading = (reading ≡ Ok new) × (back ≡ name)
 ReadsTurn new name (Err refuse) reading = Refuses refuse reading

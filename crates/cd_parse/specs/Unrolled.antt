@@ -6,7 +6,7 @@ use Rattle.cd_words.specs.declared.sums.Variable.{Variable}
 use Rattle.cd_words.specs.declared.lines.Line.{Line}
 use Rattle.cd_words.specs.Wrongs.{at_line, ◌>>=◌}
 use Rattle.cd_words.specs.Blocks.{marked_lines, Block, stop, says, repeats, here, blocks}
-use Rattle.cd_parse.specs.Draft.{Draft, no_draft, document_of}
+use Rattle.cd_parse.specs.Draft.{DraftModel, no_draft, document_of}
 use Rattle.cd_parse.specs.Reading.{counted, taken, Loop, loop_in, variable_of, ended}
 
 -- what a text stands for, one by one: a statement, with the variables of the loops around it; the start of a turn of a loop;
@@ -39,13 +39,13 @@ steps (repeats line body rest) variables =
 -- ---- steps taken in order
 
 -- a statement is taken, the start of a turn is counted, and a loop's line that is refused ends the reading
-abbrev pub step_taken : Step → Draft → Result Draft Refusal
+abbrev pub step_taken : Step → DraftModel → Result DraftModel Refusal
 step_taken (statement variables line) draft = taken variables line draft
 step_taken turn draft = counted draft
 step_taken (refused refusal) draft = Err refusal
 
 -- steps one after another, up to the first that is refused
-abbrev pub in_order : List Step → Draft → Result Draft Refusal
+abbrev pub in_order : List Step → DraftModel → Result DraftModel Refusal
 in_order [] draft = Ok draft
 in_order (step ∷ rest) draft = step_taken step draft >>= in_order rest
 

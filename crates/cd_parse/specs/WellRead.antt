@@ -5,6 +5,7 @@ use Rattle.cd_base.specs.declared.place.Place.{Place}
 use Rattle.cd_base.specs.declared.place.Range.{Range}
 use Rattle.cd_base.specs.declared.pattern.Pattern.{Pattern}
 use Rattle.cd_base.specs.declared.pattern.Pattern.TheVariants.{Const, Iota, Mix}
+use Rattle.cd_tree.specs.Limits.{words_limit, name_limit, regions_limit, faults_limit}
 use Rattle.cd_tree.specs.declared.document.Region.{Region}
 use Rattle.cd_tree.specs.declared.document.RawFault.{RawFault}
 use Rattle.cd_tree.specs.declared.document.Document.{Document}
@@ -18,7 +19,7 @@ use Rattle.cd_tree.specs.declared.kinds.Kind.{Kind}
 use Rattle.cd_tree.specs.declared.kinds.KindName.{KindName}
 use Rattle.cd_tree.specs.declared.operation.Op.{Op}
 use Rattle.cd_tree.specs.declared.operation.Op.TheVariants.{Fill, Copy, Add, Sub, Mul, Axpy, Scan, Sum, Dot, Max, Stencil, Spmv}
-use Rattle.cd_tree.specs.Outlines.{IsTree}
+use Rattle.cd_tree.specs.TreeModel.{IsTree}
 use Rattle.cd_words.specs.Sums.{is_base}
 use Rattle.cd_parse.specs.Draft.{has_kind_named, has_region_named, four_kinds}
 use Rattle.cd_parse.specs.Operations.{fits}
@@ -30,7 +31,7 @@ pub record IsFound (regions : List Region) (number : ℕ) (region : Region) : Ty
   pub there : slice_get regions number ≡ Some region
   pub first : has_region_named (take number regions) region.name ≡ false
   pub name : is_base region.name ≡ true
-  pub size : region.length ≤ 1048576
+  pub size : region.length ≤ words_limit
 
 -- a range, not empty, of a region
 pub record IsReadRange (regions : List Region) (range : Range) : Type 0 where
@@ -79,15 +80,15 @@ IsReadOp regions (Spmv d s c v x) =
 abbrev pub AreReadKinds : List KindName → List KindName → Type 0
 AreReadKinds before [] = Unit {0}
 AreReadKinds before (kind ∷ kinds) =
-    (is_base kind.name ≡ true) × (kind.name ≢ codes "none") × (length kind.name ≤ 32) × (has_kind_named before kind.name ≡ false)
+    (is_base kind.name ≡ true) × (kind.name ≢ codes "none") × (length kind.name ≤ name_limit) × (has_kind_named before kind.name ≡ false)
     × AreReadKinds (before ++ kind ∷ []) kinds
 
 -- these regions behind others with so many words: each with a base of its own for a name, and a word
 abbrev pub AreReadRegions : List Region → ℕ → List Region → Type 0
 AreReadRegions before words [] = Unit {0}
 AreReadRegions before words (region ∷ regions) =
-    (is_base region.name ≡ true) × (length region.name ≤ 32) × (has_region_named before region.name ≡ false) × (0 < region.length)
-    × (words + region.length ≤ 1048576) × IsReadPattern region.pattern
+    (is_base region.name ≡ true) × (length region.name ≤ name_limit) × (has_region_named before region.name ≡ false) × (0 < region.length)
+    × (words + region.length ≤ words_limit) × IsReadPattern region.pattern
     × AreReadRegions (before ++ region ∷ []) (words + region.length) regions
 
 abbrev pub AreReadEntries : List Region → List Entry → Type 0
@@ -102,7 +103,7 @@ AreReadItems regions (Group ids ∷ items) = AreReadItems regions items
 -- a domain: its name is a base, and what its entries and items name are regions
 pub record IsReadDomain (regions : List Region) (domain : Domain) : Type 0 where
   pub name : is_base domain.name ≡ true
-  pub short : length domain.name ≤ 32
+  pub short : length domain.name ≤ name_limit
   pub entries : AreReadEntries regions domain.entries
   pub items : AreReadItems regions domain.items
 
@@ -148,8 +149,8 @@ pub record WellRead (document : Document) : Type 0 where
   pub version : FitsVersion document.version document.tree.kinds
   pub kinds : AreReadKinds [] document.tree.kinds
   pub regions : AreReadRegions [] 0 document.regions
-  pub few_regions : length document.regions ≤ 64
+  pub few_regions : length document.regions ≤ regions_limit
   pub tree : IsTree document.tree
   pub domains : AreReadDomains document.regions document.tree.domains
   pub faults : AreReadFaults document.regions document.tree.kinds document.faults
-  pub few_faults : length document.faults ≤ 256
+  pub few_faults : length document.faults ≤ faults_limit

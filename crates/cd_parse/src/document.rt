@@ -1,21 +1,22 @@
 ghost use Rattle.std.specs.Prelude.{◌≡◌, ◌≤◌, length};
-ghost use Rattle.cd_tree.specs.Outlines.{IsTree};
+ghost use Rattle.cd_tree.specs.Limits.{text_limit};
+ghost use Rattle.cd_tree.specs.TreeModel.{IsTree};
 ghost use Rattle.cd_words.specs.Steps.{Answers};
 ghost use Rattle.cd_parse.specs.Draft.{document_of};
 ghost use Rattle.cd_parse.specs.Reading.{parse};
 
-use crate::draft::Builder;
+use crate::draft::Draft;
 use crate::reading::read_draft;
 use cd_base::Items;
 use cd_tree::{Document, Refuse, Tree};
 use std::alloc::Global;
 
 // What a draft has said, whose domains are a program.
-fn document(draft: Builder) -> Document
+fn document(draft: Draft) -> Document
     requires { IsTree (record { kinds = draft.kinds; domains = draft.domains }) }
     ensures { result ≡ document_of draft }
 {
-    let Builder {
+    let Draft {
         version,
         kinds,
         regions,
@@ -34,7 +35,7 @@ fn document(draft: Builder) -> Document
 /// The document that a text is, or the first of the refusals E2 to E8 that the text meets. The text has at most 1 MiB;
 /// that it has is for the caller to see (E1).
 pub fn read_document(alloc: Global, bytes: &[u8]) -> Result<Document, Refuse>
-    requires { length bytes.now ≤ 1048576 }
+    requires { length bytes.now ≤ text_limit }
     ensures { Answers result (parse bytes.now) }
 {
     match read_draft(alloc, bytes) {

@@ -5,7 +5,9 @@ ghost use Rattle.cd_parse.specs.Heads.{entries_of, room_in, room_for_domain, end
 ghost use Rattle.cd_parse.specs.Reading.{counted};
 
 use cd_base::{Items, NoMemory};
-use cd_tree::{Domain, Entry, Item, KindName, NodeId, RawScript, Refusal, Refuse, Regions, Which};
+use cd_tree::{
+    Domain, Entry, Item, KindName, NodeId, RawScript, Refusal, Refuse, Regions, Which, limits,
+};
 use cd_words::{Stop, Wrong, room};
 use std::alloc::Global;
 use std::marker::Model;
@@ -74,7 +76,7 @@ pub(crate) struct Level {
 
 /// The draft of a document: what the statements so far have said.
 #[derive(Drop)]
-pub(crate) struct Builder {
+pub(crate) struct Draft {
     /// Statements and turns of loops.
     pub lines: u32,
     pub stage: Stage,
@@ -94,21 +96,21 @@ pub(crate) struct Builder {
     pub faults: RawScript,
 }
 
-impl Model for Builder {
+impl Model for Draft {
     ghost use Rattle.std.specs.Prelude.{reverse};
-    ghost use Rattle.cd_parse.specs.Draft.{Draft};
+    ghost use Rattle.cd_parse.specs.Draft.{DraftModel};
 
-    ghost Value = { Draft };
+    ghost Value = { DraftModel };
 
     ghost view = { λ it. record { lines = it.lines; stage = it.stage; version = it.version; kinds = it.kinds; regions = it.regions; words = it.words; domains = it.domains.items; levels = reverse it.levels.items; items = it.items; preserves = it.preserves; faults = it.faults } };
 }
 
-impl Builder {
+impl Draft {
     /// The draft before the first statement. It takes no memory.
-    pub(crate) fn new(alloc: Global) -> Builder
+    pub(crate) fn new(alloc: Global) -> Draft
         ensures { result ≡ no_draft }
     {
-        Builder {
+        Draft {
             lines: 0,
             stage: Stage::Start,
             version: 1,
@@ -127,11 +129,11 @@ impl Builder {
     pub(crate) fn count(&mut self) -> Result<(), Refuse>
         ensures { Reads self.new result (counted self.old) }
     {
-        if self.lines < 65_536 {
+        if self.lines < limits::MOST_LINES {
             self.lines += 1;
             Ok(())
         } else {
-            Err(Refuse::Refused(Refusal::Limit(Which::Lines, 65_537)))
+            Err(Refuse::Refused(Refusal::Limit(Which::Lines, u64::from(limits::MOST_LINES) + 1)))
         }
     }
 }
@@ -144,7 +146,7 @@ fn is_open(group: &Option<Items<NodeId>>) -> bool
     group.is_some()
 }
 
-impl Builder {
+impl Draft {
     /// In a domain, and not in a group of it.
     pub(crate) fn takes_items(&self) -> bool
         ensures { result ≡ takes_items self.now.levels }
@@ -245,7 +247,7 @@ pub(crate) fn push_last<T: Drop>(items: &mut Items<T>, item: T) -> Result<(), No
 
 // ---- domains and groups that open and close
 
-impl Builder {
+impl Draft {
     /// Whether one more domain has room in its parent.
     pub(crate) fn room_for_domain(&self) -> Result<(), Wrong>
         ensures { result ≡ room_for_domain self.now.levels self.now.items }
@@ -381,8 +383,8 @@ fn room_in(group: &Option<Items<NodeId>>, items: u32) -> Result<(), Wrong>
     ensures { result ≡ room_in group.now items }
 {
     match group {
-        None => room(Which::Items, 16_384, items as usize),
-        Some(members) => room(Which::Members, 256, members.items().len()),
+        None => room(Which::Items, limits::MOST_ITEMS, items as usize),
+        Some(members) => room(Which::Members, limits::MOST_MEMBERS, members.items().len()),
     }
 }
 

@@ -8,12 +8,12 @@ ghost use Rattle.cd_parse.specs.Draft.{four_kinds, kind_name, has_kind_named, ha
 ghost use Rattle.cd_words.specs.Wrongs.{both};
 ghost use Rattle.cd_parse.specs.Heads.{name_fits, begun, cd_in, short_how, long_how, how_in, with_entry_of, preserve_in, faults_in, is_kind_name, with_kind_named, kind_in, words_fit, region_of, with_region, regioned, region_statement, time_in, damage_in, with_fault, struck, strike_in, group_in, end_in, has_domain_form, retry_fits, domain_named, with_domain, domained, domain_in};
 
-use crate::draft::{Builder, Stage, push_last};
+use crate::draft::{Draft, Stage, push_last};
 use crate::operations::{fits, op_in};
 use crate::ranges::{place_in, range_in};
 use cd_base::{Bytes, Items, NoMemory, Pattern, Place, Range, Text};
 use cd_tree::{
-    Domain, Entry, How, Item, Kind, KindName, Kinds, NodeId, Op, RawFault, Region, Which,
+    Domain, Entry, How, Item, Kind, KindName, Kinds, NodeId, Op, RawFault, Region, Which, limits,
 };
 use cd_words::{
     Stop, Variable, Wrong, all_hold, both, expression, guard, is_base, kind, kind_set, name, path,
@@ -25,7 +25,7 @@ fn name_fits(name: &[u8]) -> Result<(), Wrong>
     ensures { result ≡ name_fits name.now }
 {
     guard(
-        name.len() <= 32,
+        name.len() <= limits::MOST_NAME,
         Wrong::Limit(Which::Name, name.len() as u64),
     )
 }
@@ -45,7 +45,7 @@ fn three<A: Drop, B: Drop, C: Drop>(
 
 // cd 1, cd 2
 #[tactic(auto, unfolding(crate::specs::Heads::cd_in))]
-pub(crate) fn cd(alloc: Global, draft: &mut Builder, words: &[Bytes]) -> Result<(), Stop>
+pub(crate) fn cd(alloc: Global, draft: &mut Draft, words: &[Bytes]) -> Result<(), Stop>
     ensures { Steps draft.new result (cd_in draft.old words.now) }
 {
     match words {
@@ -57,7 +57,7 @@ pub(crate) fn cd(alloc: Global, draft: &mut Builder, words: &[Bytes]) -> Result<
     }
 }
 
-fn begin(alloc: Global, draft: &mut Builder, version: &[u8]) -> Result<(), Stop>
+fn begin(alloc: Global, draft: &mut Draft, version: &[u8]) -> Result<(), Stop>
     ensures { Steps draft.new result (begun draft.old version.now) }
 {
     if version == b"1".as_slice() {
@@ -98,7 +98,7 @@ fn kind_name(alloc: Global, name: &str) -> Result<KindName, NoMemory>
 
 // faults
 #[tactic(auto, unfolding(crate::specs::Heads::faults_in))]
-pub(crate) fn faults(draft: &mut Builder, words: &[Bytes]) -> Result<(), Stop>
+pub(crate) fn faults(draft: &mut Draft, words: &[Bytes]) -> Result<(), Stop>
     ensures { Steps draft.new result (faults_in draft.old words.now) }
 {
     match words {
@@ -153,7 +153,7 @@ fn long_how(variables: &[Variable], word: &[u8], more: &[Bytes]) -> Result<How, 
 #[tactic(auto, unfolding(crate::specs::Heads::preserve_in))]
 pub(crate) fn preserve(
     variables: &[Variable],
-    draft: &mut Builder,
+    draft: &mut Draft,
     words: &[Bytes],
 ) -> Result<(), Stop>
     ensures { Steps draft.new result (preserve_in variables.now draft.old words.now) }
@@ -171,12 +171,16 @@ pub(crate) fn preserve(
 }
 
 #[tactic(auto, unfolding(crate::specs::Heads::with_entry_of))]
-fn add_entry(draft: &mut Builder, range: Range, how: How) -> Result<(), Stop>
+fn add_entry(draft: &mut Draft, range: Range, how: How) -> Result<(), Stop>
     ensures { Steps draft.new result (with_entry_of draft.old range how) }
 {
     let at = draft.innermost();
-    let entries = room(Which::Entries, 64, draft.entries_at(at));
-    let preserves = room(Which::Preserves, 16_384, draft.preserves as usize);
+    let entries = room(Which::Entries, limits::MOST_ENTRIES, draft.entries_at(at));
+    let preserves = room(
+        Which::Preserves,
+        limits::MOST_PRESERVES,
+        draft.preserves as usize,
+    );
     all_hold(&[entries, preserves])?;
     draft.add_entry(at, Entry { range, how })?;
     Ok(())
@@ -186,11 +190,7 @@ fn add_entry(draft: &mut Builder, range: Range, how: How) -> Result<(), Stop>
 
 // kind BASE, kind BASE halt
 #[tactic(auto, unfolding(crate::specs::Heads::kind_in))]
-pub(crate) fn kind_statement(
-    alloc: Global,
-    draft: &mut Builder,
-    words: &[Bytes],
-) -> Result<(), Stop>
+pub(crate) fn kind_statement(alloc: Global, draft: &mut Draft, words: &[Bytes]) -> Result<(), Stop>
     ensures { Steps draft.new result (kind_in draft.old words.now) }
 {
     match words {
@@ -200,7 +200,7 @@ pub(crate) fn kind_statement(
     }
 }
 
-fn add_halting(alloc: Global, draft: &mut Builder, word: &[u8], halt: &[u8]) -> Result<(), Stop>
+fn add_halting(alloc: Global, draft: &mut Draft, word: &[u8], halt: &[u8]) -> Result<(), Stop>
     ensures { Steps draft.new result (if bytes_eq halt.now (codes "halt") then with_kind_named draft.old word.now true else Err Form) }
 {
     if halt == b"halt".as_slice() {
@@ -226,14 +226,14 @@ fn has_kind_named(kinds: &[KindName], word: &[u8]) -> bool
 }
 
 #[tactic(auto, unfolding(crate::specs::Heads::with_kind_named))]
-fn add_kind(alloc: Global, draft: &mut Builder, word: &[u8], halts: bool) -> Result<(), Stop>
+fn add_kind(alloc: Global, draft: &mut Draft, word: &[u8], halts: bool) -> Result<(), Stop>
     ensures { Steps draft.new result (with_kind_named draft.old word.now halts) }
 {
     if !draft.stage.takes_kinds() || !is_kind_name(word) {
         return Err(Stop::Wrong(Wrong::Form));
     }
     let free = guard(!has_kind_named(draft.kinds.items(), word), Wrong::Taken);
-    let count = room(Which::Kinds, 16, draft.kinds.items().len());
+    let count = room(Which::Kinds, limits::MOST_KINDS, draft.kinds.items().len());
     all_hold(&[free, name_fits(word), count])?;
     let name = text_of(alloc, word)?;
     push_last(&mut draft.kinds, KindName { name, halts })?;
@@ -255,7 +255,7 @@ fn words_fit(words: u64, size: u64) -> Result<(), Wrong>
 {
     let sum = u128::from(words) + u128::from(size);
     let told = sum.min(18_446_744_073_709_551_615) as u64;
-    guard(sum <= 1_048_576, Wrong::Limit(Which::Words, told))
+    guard(sum <= limits::MOST_WORDS, Wrong::Limit(Which::Words, told))
 }
 
 // region NAME E PATTERN
@@ -263,7 +263,7 @@ fn words_fit(words: u64, size: u64) -> Result<(), Wrong>
 pub(crate) fn region_statement(
     alloc: Global,
     variables: &[Variable],
-    draft: &mut Builder,
+    draft: &mut Draft,
     words: &[Bytes],
 ) -> Result<(), Stop>
     ensures { Steps draft.new result (region_statement variables.now draft.old words.now) }
@@ -281,7 +281,7 @@ pub(crate) fn region_statement(
 }
 
 fn region_of(
-    draft: &mut Builder,
+    draft: &mut Draft,
     stage: Result<(), Wrong>,
     named: Result<Text, Wrong>,
     size: Result<u64, Wrong>,
@@ -295,20 +295,24 @@ fn region_of(
 }
 
 #[tactic(auto, unfolding(crate::specs::Heads::with_region))]
-fn add_region(draft: &mut Builder, named: Text, size: u64, pattern: Pattern) -> Result<(), Stop>
+fn add_region(draft: &mut Draft, named: Text, size: u64, pattern: Pattern) -> Result<(), Stop>
     ensures { Steps draft.new result (with_region draft.old named size pattern) }
 {
     let word = named.as_str().as_bytes();
     let free = guard(!has_region_named(draft.regions.items(), word), Wrong::Taken);
     let some = guard(0 < size, Wrong::Unfit);
-    let count = room(Which::Regions, 64, draft.regions.items().len());
+    let count = room(
+        Which::Regions,
+        limits::MOST_REGIONS,
+        draft.regions.items().len(),
+    );
     let sum = words_fit(draft.words, size);
     all_hold(&[free, some, name_fits(word), count, sum])?;
     put_region(draft, named, size, pattern)?;
     Ok(())
 }
 
-fn put_region(draft: &mut Builder, named: Text, size: u64, pattern: Pattern) -> Result<(), NoMemory>
+fn put_region(draft: &mut Draft, named: Text, size: u64, pattern: Pattern) -> Result<(), NoMemory>
     ensures { OnOk result (draft.new ≡ record draft.old { stage = Regions; regions = draft.old.regions ++ region_of named size pattern ∷ []; words = draft.old.words + size }) }
 {
     if size >= 4_294_967_296 {
@@ -339,7 +343,7 @@ fn time_in(variables: &[Variable], begin: &[u8], point: &[u8]) -> Result<(u64, u
 #[tactic(auto, unfolding(crate::specs::Heads::damage_in))]
 fn damage_in(
     variables: &[Variable],
-    draft: &Builder,
+    draft: &Draft,
     word: &[u8],
     place: &[u8],
     mask: &[u8],
@@ -360,7 +364,7 @@ fn damage_in(
 pub(crate) fn strike(
     alloc: Global,
     variables: &[Variable],
-    draft: &mut Builder,
+    draft: &mut Draft,
     words: &[Bytes],
 ) -> Result<(), Stop>
     ensures { Steps draft.new result (strike_in variables.now draft.old words.now) }
@@ -384,7 +388,7 @@ pub(crate) fn strike(
 }
 
 fn add_strike(
-    draft: &mut Builder,
+    draft: &mut Draft,
     stage: Result<(), Wrong>,
     path: Result<Text, Wrong>,
     time: Result<(u64, u64), Wrong>,
@@ -405,10 +409,14 @@ fn add_strike(
     add_fault(draft, fault)
 }
 
-fn add_fault(draft: &mut Builder, fault: RawFault) -> Result<(), Stop>
+fn add_fault(draft: &mut Draft, fault: RawFault) -> Result<(), Stop>
     ensures { Steps draft.new result (with_fault draft.old fault) }
 {
-    room(Which::Faults, 256, draft.faults.items().len())?;
+    room(
+        Which::Faults,
+        limits::MOST_FAULTS,
+        draft.faults.items().len(),
+    )?;
     push_last(&mut draft.faults, fault)?;
     Ok(())
 }
@@ -416,11 +424,11 @@ fn add_fault(draft: &mut Builder, fault: RawFault) -> Result<(), Stop>
 // ---- operations
 
 #[tactic(auto, unfolding(crate::specs::Statements::with_op))]
-fn add_op(draft: &mut Builder, op: Op) -> Result<(), Stop>
+fn add_op(draft: &mut Draft, op: Op) -> Result<(), Stop>
     ensures { Steps draft.new result (with_op draft.old op) }
 {
     let fit = guard(fits(&op), Wrong::Unfit);
-    let count = room(Which::Items, 16_384, draft.items as usize);
+    let count = room(Which::Items, limits::MOST_ITEMS, draft.items as usize);
     all_hold(&[fit, count])?;
     let at = draft.innermost();
     draft.add_item(at, Item::Run(op))?;
@@ -431,7 +439,7 @@ fn add_op(draft: &mut Builder, op: Op) -> Result<(), Stop>
 #[tactic(auto, unfolding(crate::specs::Statements::operation_in))]
 pub(crate) fn operation(
     variables: &[Variable],
-    draft: &mut Builder,
+    draft: &mut Draft,
     keyword: &[u8],
     rest: &[Bytes],
 ) -> Result<(), Stop>
@@ -447,13 +455,13 @@ pub(crate) fn operation(
 
 // group
 #[tactic(auto, unfolding(crate::specs::Heads::group_in))]
-pub(crate) fn group(alloc: Global, draft: &mut Builder, words: &[Bytes]) -> Result<(), Stop>
+pub(crate) fn group(alloc: Global, draft: &mut Draft, words: &[Bytes]) -> Result<(), Stop>
     ensures { Steps draft.new result (group_in draft.old words.now) }
 {
     match words {
         [] => {
             let stage = guard(draft.takes_items(), Wrong::Form);
-            let count = room(Which::Items, 16_384, draft.items as usize);
+            let count = room(Which::Items, limits::MOST_ITEMS, draft.items as usize);
             all_hold(&[stage, count])?;
             draft.open_group(alloc)?;
             Ok(())
@@ -464,7 +472,7 @@ pub(crate) fn group(alloc: Global, draft: &mut Builder, words: &[Bytes]) -> Resu
 
 // end
 #[tactic(auto, unfolding(crate::specs::Heads::end_in))]
-pub(crate) fn end(draft: &mut Builder, words: &[Bytes]) -> Result<(), Stop>
+pub(crate) fn end(draft: &mut Draft, words: &[Bytes]) -> Result<(), Stop>
     ensures { Steps draft.new result (end_in draft.old words.now) }
 {
     match words {
@@ -475,7 +483,7 @@ pub(crate) fn end(draft: &mut Builder, words: &[Bytes]) -> Result<(), Stop>
 
 // ---- domain
 
-fn has_domain_form(draft: &Builder, retry: &[u8], detects: &[u8]) -> bool
+fn has_domain_form(draft: &Draft, retry: &[u8], detects: &[u8]) -> bool
     ensures { result ≡ has_domain_form draft.now retry.now detects.now }
 {
     draft.takes_domains() && (retry == b"retry".as_slice() && detects == b"detects".as_slice())
@@ -510,7 +518,7 @@ fn is_parent(one: Option<NodeId>, other: Option<NodeId>) -> bool
 pub(crate) fn domain(
     alloc: Global,
     variables: &[Variable],
-    draft: &mut Builder,
+    draft: &mut Draft,
     words: &[Bytes],
 ) -> Result<(), Stop>
     ensures { Steps draft.new result (domain_in variables.now draft.old words.now) }
@@ -532,7 +540,7 @@ pub(crate) fn domain(
 
 fn domain_of(
     alloc: Global,
-    draft: &mut Builder,
+    draft: &mut Draft,
     form: Result<(), Wrong>,
     named: Result<Text, Wrong>,
     tries: Result<u64, Wrong>,
@@ -548,13 +556,16 @@ fn domain_of(
 fn retry_fits(tries: u64) -> Result<(), Wrong>
     ensures { result ≡ retry_fits tries }
 {
-    guard(0 < tries && tries <= 100, Wrong::Limit(Which::Retry, tries))
+    guard(
+        0 < tries && tries <= u64::from(limits::MOST_RETRY),
+        Wrong::Limit(Which::Retry, tries),
+    )
 }
 
 #[tactic(auto, unfolding(crate::specs::Heads::with_domain))]
 fn add_domain(
     alloc: Global,
-    draft: &mut Builder,
+    draft: &mut Draft,
     named: Text,
     tries: u64,
     kinds: Kinds,
@@ -565,8 +576,12 @@ fn add_domain(
     let parent = draft.parent();
     let taken = has_child_named(draft.domains.as_slice(), parent, word);
     let free = guard(!taken, Wrong::Taken);
-    let count = room(Which::Domains, 2_048, draft.domains.len());
-    let depth = room(Which::Depth, 16, draft.levels.len());
+    let count = room(Which::Domains, limits::MOST_DOMAINS, draft.domains.len());
+    let depth = room(
+        Which::Depth,
+        limits::MOST_DEPTH as usize,
+        draft.levels.len(),
+    );
     let place = draft.room_for_domain();
     all_hold(&[
         free,
@@ -582,7 +597,7 @@ fn add_domain(
 
 fn put_domain(
     alloc: Global,
-    draft: &mut Builder,
+    draft: &mut Draft,
     named: Text,
     parent: Option<NodeId>,
     tries: u64,

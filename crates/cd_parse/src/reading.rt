@@ -1,14 +1,15 @@
 ghost use Rattle.std.specs.Prelude.{◌≡◌, ◌+◌, ◌<◌, ◌≤◌, ◌&&◌, length, IfOk, OnOk, codes, bytes_eq};
+ghost use Rattle.cd_tree.specs.Limits.{text_limit};
 ghost use Rattle.cd_words.specs.Steps.{Reads, Answers};
 ghost use Rattle.cd_words.specs.Layouts.{IsTable};
 ghost use Rattle.cd_words.specs.Sums.{is_base};
 ghost use Rattle.cd_parse.specs.Reading.{taken, looped, all_turns, is_variable, loop_limits, bounds_part, loop_bounds, ended, draft_of};
 ghost use Rattle.cd_parse.specs.Turns.{read_from, turn_from, loop_as, ReadsLoop, ReadsTurn};
 
-use crate::draft::Builder;
+use crate::draft::Draft;
 use crate::statements::statement;
 use cd_base::{Bytes, NoMemory};
-use cd_tree::{Refusal, Refuse, Which};
+use cd_tree::{Refusal, Refuse, Which, limits};
 use cd_words::{Line, Role, Variable, Wrong, both, bounds, guard, is_base, lay_out, room};
 use std::alloc::Global;
 
@@ -22,12 +23,7 @@ struct Header<'a> {
 
 // A statement, at its line.
 #[tactic(auto, unfolding(crate::specs::Reading::taken))]
-fn take(
-    alloc: Global,
-    line: &Line,
-    variables: &[Variable],
-    draft: &mut Builder,
-) -> Result<(), Refuse>
+fn take(alloc: Global, line: &Line, variables: &[Variable], draft: &mut Draft) -> Result<(), Refuse>
     ensures { Reads draft.new result (taken variables.now line.now draft.old) }
 {
     if let Err(refuse) = draft.count() {
@@ -100,13 +96,13 @@ fn bounds_part(parts: Result<((), ((u64, u64), ((), ()))), Wrong>) -> Result<(u6
     }
 }
 
-// The variable is no other's, and at most fifteen loops stand around.
+// The variable is no other's, and not too many loops stand around.
 fn loop_limits(variables: &[Variable], variable: &[u8]) -> Result<((), ()), Wrong>
     ensures { result ≡ loop_limits variables.now variable.now }
 {
     both(
         guard(!is_variable(variables, variable), Wrong::Taken),
-        room(Which::Nesting, 16, variables.len()),
+        room(Which::Nesting, limits::MOST_NESTING, variables.len()),
     )
 }
 
@@ -124,7 +120,7 @@ fn block(
     after: &[u32],
     from: usize,
     variables: &mut Vec<Variable>,
-    draft: &mut Builder,
+    draft: &mut Draft,
 ) -> Result<(), Refuse>
     requires table { IsTable lines.now after.now 0 }
     requires from { from ≤ length lines.now }
@@ -163,7 +159,7 @@ fn repeat(
     at: usize,
     line: &Line,
     variables: &mut Vec<Variable>,
-    draft: &mut Builder,
+    draft: &mut Draft,
 ) -> Result<(), Refuse>
     requires table { IsTable lines.now after.now 0 }
     requires at { at < length lines.now }
@@ -185,7 +181,7 @@ fn all_turns(
     from: usize,
     header: Header<'_>,
     variables: &mut Vec<Variable>,
-    draft: &mut Builder,
+    draft: &mut Draft,
 ) -> Result<(), Refuse>
     requires table { IsTable lines.now after.now 0 }
     requires from { from ≤ length lines.now }
@@ -218,7 +214,7 @@ fn turn(
     name: Bytes,
     value: u64,
     variables: &mut Vec<Variable>,
-    draft: &mut Builder,
+    draft: &mut Draft,
 ) -> Result<Bytes, Refuse>
     requires table { IsTable lines.now after.now 0 }
     requires from { from ≤ length lines.now }
@@ -241,15 +237,15 @@ fn turn(
 }
 
 /// What a text has said at its end, or why it is no document.
-pub(crate) fn read_draft(alloc: Global, bytes: &[u8]) -> Result<Builder, Refuse>
-    requires { length bytes.now ≤ 1048576 }
+pub(crate) fn read_draft(alloc: Global, bytes: &[u8]) -> Result<Draft, Refuse>
+    requires { length bytes.now ≤ text_limit }
     ensures { Answers result (draft_of bytes.now) }
 {
     let layout = match lay_out(alloc, bytes) {
         Ok(layout) => layout,
         Err(refuse) => return Err(refuse),
     };
-    let mut draft = Builder::new(alloc);
+    let mut draft = Draft::new(alloc);
     let mut variables = Vec::new(alloc);
     if let Err(refuse) = block(
         alloc,
@@ -265,7 +261,7 @@ pub(crate) fn read_draft(alloc: Global, bytes: &[u8]) -> Result<Builder, Refuse>
 }
 
 // The end of a text whose lines are fewer than `number` by one.
-fn end(number: u32, draft: Builder) -> Result<Builder, Refuse>
+fn end(number: u32, draft: Draft) -> Result<Draft, Refuse>
     ensures { Answers result (ended number draft) }
 {
     if draft.stage.may_end() {

@@ -2,7 +2,7 @@ ghost use Rattle.std.specs.Prelude.{◌≡◌};
 ghost use Rattle.cd_words.specs.Steps.{Steps};
 ghost use Rattle.cd_parse.specs.Statements.{statement, statement_in};
 
-use crate::draft::Builder;
+use crate::draft::Draft;
 use crate::heads::{
     cd, domain, end, faults, group, kind_statement, operation, preserve, region_statement, strike,
 };
@@ -16,7 +16,7 @@ pub(crate) fn statement(
     alloc: Global,
     variables: &[Variable],
     words: &[Bytes],
-    draft: &mut Builder,
+    draft: &mut Draft,
 ) -> Result<(), Stop>
     ensures { Steps draft.new result (statement_in variables.now words.now draft.old) }
 {
@@ -31,7 +31,7 @@ pub(crate) fn statement(
 fn by_keyword(
     alloc: Global,
     variables: &[Variable],
-    draft: &mut Builder,
+    draft: &mut Draft,
     keyword: &[u8],
     rest: &[Bytes],
 ) -> Result<(), Stop>

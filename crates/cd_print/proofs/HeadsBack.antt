@@ -24,7 +24,7 @@ use Rattle.cd_words.specs.Wrongs.{both, guard, room, all_hold, ◌>>=◌}
 use Rattle.cd_words.specs.Sums.{is_base, expression}
 use Rattle.cd_words.specs.Names.{name, path}
 use Rattle.cd_words.specs.Kinds.{kind, kind_set, pattern}
-use Rattle.cd_parse.specs.Draft.{Draft, no_draft, close_domain, takes_kinds, takes_regions, takes_items, takes_entries, takes_domains, is_closed, takes_strikes, may_end, add_entry, add_domain, open_group, innermost, parent_of, has_kind_named, has_region_named, has_child_named, kind_name}
+use Rattle.cd_parse.specs.Draft.{DraftModel, no_draft, close_domain, takes_kinds, takes_regions, takes_items, takes_entries, takes_domains, is_closed, takes_strikes, may_end, add_entry, add_domain, open_group, innermost, parent_of, has_kind_named, has_region_named, has_child_named, kind_name}
 use Rattle.cd_parse.specs.Ranges.{range_in, place_in}
 use Rattle.cd_parse.specs.Heads.{begun, cd_in, with_kind_named, kind_in, name_fits, words_fit, with_region, region_of, with_domain, room_for_domain, domain_named, domain_in, entries_of, entry_of, with_entry_of, how_in, preserve_in, group_in, faults_in, fault_of, with_fault, time_in, damage_in, strike_in}
 use Rattle.cd_parse.specs.Heads as heads
@@ -69,15 +69,15 @@ short_name word h = held (nat_le (length word) 32) (Limit which.Name (length wor
 -- ---- version, kinds and regions
 
 -- the draft that a step gives; one that is known where the step gives none
-abbrev pub given : Draft → Result Draft Wrong → Draft
+abbrev pub given : DraftModel → Result DraftModel Wrong → DraftModel
 given draft (Ok next) = next
 given draft (Err wrong) = draft
 
 -- behind `cd 1`, and behind `cd 2`
-abbrev pub in_first : Draft
+abbrev pub in_first : DraftModel
 in_first = given no_draft (begun no_draft (codes "1"))
 
-abbrev pub in_second : Draft
+abbrev pub in_second : DraftModel
 in_second = given no_draft (begun no_draft (codes "2"))
 
 pub first_version : Does no_draft (codes "cd" ∷ decimal 1 ∷ []) in_first
@@ -96,11 +96,11 @@ other_word word none differs = by (bytes_eq word none) refl
     by false e = refl
 
 -- the tests of a kind's name behind its form
-abbrev kind_tests : Draft → List ℕ → List (Result (Unit {0}) Wrong)
+abbrev kind_tests : DraftModel → List ℕ → List (Result (Unit {0}) Wrong)
 kind_tests draft word =
     guard (not (has_kind_named draft.kinds word)) Taken ∷ name_fits word ∷ room which.Kinds 16 (length draft.kinds) ∷ []
 
-kind_put : (draft : Draft) (word : List ℕ) (halts : Bool) → takes_kinds draft.stage ≡ true → is_base word ≡ true → (word ≡ codes "none" → ⊥)
+kind_put : (draft : DraftModel) (word : List ℕ) (halts : Bool) → takes_kinds draft.stage ≡ true → is_base word ≡ true → (word ≡ codes "none" → ⊥)
     → has_kind_named draft.kinds word ≡ false → length word ≤ 32 → length draft.kinds < 16
     → with_kind_named draft word halts ≡ Ok (record draft { kinds = draft.kinds ++ kind_name word halts ∷ [] })
 unfolding with_kind_named
@@ -115,17 +115,17 @@ kind_put draft word halts stands base differs new fits few =
       (short_name word fits, (has_room which.Kinds 16 (length draft.kinds) few, tt)),
     )
 
-kind_said : (draft : Draft) (word : List ℕ) (halts : Bool) → statement_in [] (kind_statement (kind_name word halts)) draft ≡ with_kind_named draft word halts
+kind_said : (draft : DraftModel) (word : List ℕ) (halts : Bool) → statement_in [] (kind_statement (kind_name word halts)) draft ≡ with_kind_named draft word halts
 unfolding statement_in statement kind_in
 kind_said draft word true = refl
 kind_said draft word false = refl
 
-pub kind_done : (draft : Draft) (it : KindName) → takes_kinds draft.stage ≡ true → is_base it.name ≡ true → (it.name ≡ codes "none" → ⊥)
+pub kind_done : (draft : DraftModel) (it : KindName) → takes_kinds draft.stage ≡ true → is_base it.name ≡ true → (it.name ≡ codes "none" → ⊥)
     → has_kind_named draft.kinds it.name ≡ false → length it.name ≤ 32 → length draft.kinds < 16
     → statement_in [] (kind_statement it) draft ≡ Ok (record draft { kinds = draft.kinds ++ it ∷ [] })
 kind_done draft it stands base differs new fits few = kind_said draft it.name it.halts ∙ kind_put draft it.name it.halts stands base differs new fits few
 
-region_put : (draft : Draft) (it : Region) → has_region_named draft.regions it.name ≡ false → 0 < it.length → length it.name ≤ 32
+region_put : (draft : DraftModel) (it : Region) → has_region_named draft.regions it.name ≡ false → 0 < it.length → length it.name ≤ 32
     → length draft.regions < 64 → draft.words + it.length ≤ 1048576
     → with_region draft it.name it.length it.pattern
     ≡ Ok (record draft { stage = in_first.stage; regions = draft.regions ++ it ∷ []; words = draft.words + it.length })
@@ -148,7 +148,7 @@ region_put draft it new some fits few room_left =
       ),
     )
 
-pub region_done : (draft : Draft) (it : Region) → takes_regions draft.stage ≡ true → is_base it.name ≡ true → IsReadPattern it.pattern
+pub region_done : (draft : DraftModel) (it : Region) → takes_regions draft.stage ≡ true → is_base it.name ≡ true → IsReadPattern it.pattern
     → has_region_named draft.regions it.name ≡ false → 0 < it.length → length it.name ≤ 32
     → length draft.regions < 64 → draft.words + it.length ≤ 1048576
     → statement_in [] (region_statement it) draft
@@ -164,7 +164,7 @@ region_done draft it stands base numbers new some fits few room_left =
 
 -- ---- domains and entries
 
-domain_put : (draft : Draft) (it : Domain) → has_child_named draft.domains (parent_of draft.levels) it.name ≡ false → length it.name ≤ 32
+domain_put : (draft : DraftModel) (it : Domain) → has_child_named draft.domains (parent_of draft.levels) it.name ≡ false → length it.name ≤ 32
     → length draft.domains < 2048 → length draft.levels < 16 → room_for_domain draft.levels draft.items ≡ Ok tt → 0 < it.retry → it.retry ≤ 100
     → with_domain draft it.name it.retry it.detects ≡ Ok (add_domain (domain_named it.name (parent_of draft.levels) it.retry it.detects) draft)
 unfolding with_domain
@@ -189,7 +189,7 @@ domain_put draft it new fits few deep some_room some most =
       ),
     )
 
-pub domain_done : (draft : Draft) (it : Domain) → takes_domains draft draft.levels ≡ true → is_base it.name ≡ true → length draft.kinds ≤ 16
+pub domain_done : (draft : DraftModel) (it : Domain) → takes_domains draft draft.levels ≡ true → is_base it.name ≡ true → length draft.kinds ≤ 16
     → it.detects < 2 ^ length draft.kinds → AreReadKinds [] draft.kinds
     → has_child_named draft.domains (parent_of draft.levels) it.name ≡ false → length it.name ≤ 32
     → length draft.domains < 2048 → length draft.levels < 16 → room_for_domain draft.levels draft.items ≡ Ok tt → 0 < it.retry → it.retry ≤ 100
@@ -213,7 +213,7 @@ how_read (how.Regen (Const word)) h = bound (pattern [] (pattern_words (Const wo
 how_read (how.Regen (Iota first step)) h = bound (pattern [] (pattern_words (Iota first step))) (Iota first step) (λ p. Ok (how.Regen p)) (pattern_read (Iota first step) h)
 how_read (how.Regen (Mix seed)) h = bound (pattern [] (pattern_words (Mix seed))) (Mix seed) (λ p. Ok (how.Regen p)) (pattern_read (Mix seed) h)
 
-pub entry_done : (draft : Draft) (it : Entry) → takes_entries draft draft.levels ≡ true → IsReadRange draft.regions it.range → IsReadHow it.how
+pub entry_done : (draft : DraftModel) (it : Entry) → takes_entries draft draft.levels ≡ true → IsReadRange draft.regions it.range → IsReadHow it.how
     → entries_of (slice_get draft.domains (innermost draft.levels)) < 64 → draft.preserves < 16384
     → statement_in [] (entry_statement draft.regions it) draft ≡ Ok (add_entry (innermost draft.levels) it draft)
 unfolding statement_in statement preserve_in with_entry_of
@@ -227,7 +227,7 @@ entry_done draft it stands range way few preserves =
     (add_entry (innermost draft.levels) it draft)
     (has_room which.Entries 64 (entries_of (slice_get draft.domains (innermost draft.levels))) few, (has_room which.Preserves 16384 draft.preserves preserves, tt))
 
-pub group_done : (draft : Draft) → takes_items draft.levels ≡ true → draft.items < 16384
+pub group_done : (draft : DraftModel) → takes_items draft.levels ≡ true → draft.items < 16384
     → statement_in [] (codes "group" ∷ []) draft ≡ Ok (open_group draft.levels draft)
 unfolding statement_in statement group_in
 group_done draft stands few =
@@ -237,7 +237,7 @@ group_done draft stands few =
 -- ---- strikes
 
 -- a draft that takes strikes
-pub striking : Draft
+pub striking : DraftModel
 unfolding faults_in
 striking = given no_draft (faults_in (close_domain [] no_draft) [])
 
@@ -249,11 +249,11 @@ pub striking_ends : may_end striking.stage ≡ true
 unfolding striking faults_in
 striking_ends = refl
 
-pub faults_done : (draft : Draft) → is_closed draft.stage ≡ true → statement_in [] (codes "faults" ∷ []) draft ≡ Ok (record draft { stage = striking.stage })
+pub faults_done : (draft : DraftModel) → is_closed draft.stage ≡ true → statement_in [] (codes "faults" ∷ []) draft ≡ Ok (record draft { stage = striking.stage })
 unfolding statement_in statement faults_in striking
 faults_done draft stands = bound (guard (is_closed draft.stage) Form) tt (λ _. Ok (record draft { stage = striking.stage })) (held (is_closed draft.stage) Form stands)
 
-pub strike_done : (draft : Draft) (it : RawFault) → takes_strikes draft.stage ≡ true → IsReadPath it.path → it.begin < 2 ^ 64 → it.item < 2 ^ 64
+pub strike_done : (draft : DraftModel) (it : RawFault) → takes_strikes draft.stage ≡ true → IsReadPath it.path → it.begin < 2 ^ 64 → it.item < 2 ^ 64
     → kind draft.kinds (kind_word draft.kinds it.kind) ≡ Ok it.kind → IsReadPlace draft.regions it.place → it.mask < 2 ^ 64 → length draft.faults < 256
     → statement_in [] (strike_statement draft.regions draft.kinds it) draft ≡ Ok (record draft { faults = draft.faults ++ it ∷ [] })
 unfolding statement_in statement strike_in time_in damage_in

@@ -8,7 +8,7 @@ use Rattle.cd_tree.specs.declared.domain.NodeId.{NodeId}
 use Rattle.cd_tree.specs.declared.domain.Item.{Item}
 use Rattle.cd_tree.specs.declared.domain.Domain.{Domain}
 use Rattle.cd_tree.specs.Laws.{NestedViewFollows}
-use Rattle.cd_tree.specs.Outlines.{Outline, IsTree, FitsDomain, SiblingsDiffer}
+use Rattle.cd_tree.specs.TreeModel.{TreeModel, IsTree, FitsDomain, SiblingsDiffer}
 use Rattle.cd_tree.specs.Domains.{Node, node, Body, stop, run, group, Members, no_more, member, node_numbers, body_numbers, member_numbers, numbers_from}
 use Rattle.cd_parse.specs.Draft.{is_parent, has_child_named}
 use Rattle.cd_print.proofs.ProgramLemmas.{each_at}
@@ -28,7 +28,7 @@ all_both domains k [] back j p q e = let same : j ≡ k = omega (arith, e) in su
 all_both domains k (it ∷ front) back j p q e = (p.0, all_both domains (suc k) front back j p.1 q (omega (arith, e)))
 
 mutual
-  node_there : (n : Node) (tree : Outline) (k : ℕ) → NestedViewFollows → IsTree tree → Seen tree.domains n → GoUp k (node_numbers n) → AllAt tree.domains k (flat_node n)
+  node_there : (n : Node) (tree : TreeModel) (k : ℕ) → NestedViewFollows → IsTree tree → Seen tree.domains n → GoUp k (node_numbers n) → AllAt tree.domains k (flat_node n)
   node_there (node id domain body) tree k view is seen up =
       let fits : FitsDomain tree.kinds tree.domains id.0 domain = each_at tree.kinds tree.domains 0 tree.domains id.0 domain id.0 is.each seen.0 (omega arith) in
       let shown : ShowsBody tree.domains body domain.items =
@@ -37,7 +37,7 @@ mutual
         body_there body tree (suc k) domain.items view is shown up.1,
       )
 
-  body_there : (b : Body) (tree : Outline) (k : ℕ) (items : List Item) → NestedViewFollows → IsTree tree → ShowsBody tree.domains b items → GoUp k (body_numbers b)
+  body_there : (b : Body) (tree : TreeModel) (k : ℕ) (items : List Item) → NestedViewFollows → IsTree tree → ShowsBody tree.domains b items → GoUp k (body_numbers b)
       → AllAt tree.domains k (flat_body b)
   body_there stop tree k items view is shown up = tt
   body_there (run op rest) tree k items view is shown up = body_there rest tree k shown.0 view is shown.2 up
@@ -47,7 +47,7 @@ mutual
       (body_there rest tree (k + length (flat_members ms)) shown.1 view is shown.4
       (up_back k (member_numbers ms) (body_numbers rest) (k + length (flat_members ms)) up (omega (arith, members_size ms)))) refl
 
-  members_there : (ms : Members) (tree : Outline) (k : ℕ) (ids : List NodeId) → NestedViewFollows → IsTree tree → ShowsMembers tree.domains ms ids → GoUp k (member_numbers ms)
+  members_there : (ms : Members) (tree : TreeModel) (k : ℕ) (ids : List NodeId) → NestedViewFollows → IsTree tree → ShowsMembers tree.domains ms ids → GoUp k (member_numbers ms)
       → AllAt tree.domains k (flat_members ms)
   members_there no_more tree k ids view is shown up = tt
   members_there (member first rest) tree k ids view is shown up =
@@ -71,7 +71,7 @@ so_many : (k n : ℕ) → length (numbers_from k n) ≡ n
 so_many k zero = refl
 so_many k (suc n) = ap suc (so_many (suc k) n)
 
-pub flat_is : (n : Node) (tree : Outline) → NestedViewFollows → IsTree tree → Seen tree.domains n → node_numbers n ≡ numbers_from 0 (length tree.domains)
+pub flat_is : (n : Node) (tree : TreeModel) → NestedViewFollows → IsTree tree → Seen tree.domains n → node_numbers n ≡ numbers_from 0 (length tree.domains)
     → flat_node n ≡ tree.domains
 flat_is n tree view is seen numbers =
     let up : GoUp 0 (node_numbers n) = subst (GoUp 0) (sym numbers) (go_up 0 (length tree.domains)) in

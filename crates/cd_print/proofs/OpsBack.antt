@@ -14,7 +14,7 @@ use Rattle.cd_words.specs.declared.wrong.Wrong.{Wrong}
 use Rattle.cd_words.specs.declared.wrong.Wrong.TheVariants.{Form, Unfit, Limit}
 use Rattle.cd_words.specs.Wrongs.{both, guard, room, all_hold, ◌>>=◌}
 use Rattle.cd_words.specs.Sums.{expression}
-use Rattle.cd_parse.specs.Draft.{Draft, takes_items, add_item, innermost}
+use Rattle.cd_parse.specs.Draft.{DraftModel, takes_items, add_item, innermost}
 use Rattle.cd_parse.specs.Ranges.{range_in}
 use Rattle.cd_parse.specs.Operations.{two_ranges, three_ranges, fill_in, axpy_in, weights, stencil_in, spmv_in, short_op, long_op, op_in, fits}
 use Rattle.cd_parse.specs.Statements.{with_op, operation_in, statement, statement_in}
@@ -53,7 +53,7 @@ three_read regions d x z p q r =
     (both_read (range_in [] regions (range_word regions x)) (range_in [] regions (range_word regions z)) x z (range_read regions x q) (range_read regions z r))
 
 -- an operation whose parts are read, where it may stand and where there is room for it
-finish : (draft : Draft) (parts : Result Op Wrong) (op : Op) → parts ≡ Ok op → takes_items draft.levels ≡ true → fits op ≡ true → draft.items < 16384
+finish : (draft : DraftModel) (parts : Result Op Wrong) (op : Op) → parts ≡ Ok op → takes_items draft.levels ≡ true → fits op ≡ true → draft.items < 16384
     → (both (guard (takes_items draft.levels) Form) parts >>= λ p. with_op draft p.1) ≡ Ok (add_item (innermost draft.levels) (Run op) draft)
 unfolding with_op
 finish draft parts op e stands shape few =
@@ -114,7 +114,7 @@ spmv_read regions d s c v x p q r t u =
     (both_read (range_in [] regions (range_word regions s)) three s (c, (v, x)) (range_read regions s q) (three_read regions c v x r t u)))
 
 -- the parts of an operation, as a statement of its words gives them
-pub op_done : (draft : Draft) (op : Op) → IsReadOp draft.regions op → takes_items draft.levels ≡ true → fits op ≡ true → draft.items < 16384
+pub op_done : (draft : DraftModel) (op : Op) → IsReadOp draft.regions op → takes_items draft.levels ≡ true → fits op ≡ true → draft.items < 16384
     → statement_in [] (op_statement draft.regions op) draft ≡ Ok (add_item (innermost draft.levels) (Run op) draft)
 unfolding statement_in statement operation_in op_in
 op_done draft (Fill d k) h stands shape few = finish draft (fill_in [] draft.regions (range_word draft.regions d ∷ decimal k ∷ [])) (Fill d k) (fill_read draft.regions d k h.0 h.1) stands shape few

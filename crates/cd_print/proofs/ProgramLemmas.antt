@@ -11,7 +11,7 @@ use Rattle.cd_tree.specs.declared.document.RawFault.{RawFault}
 use Rattle.cd_tree.specs.declared.document.Document.{Document}
 use Rattle.cd_tree.specs.declared.kinds.KindName.{KindName}
 use Rattle.cd_tree.specs.Laws.{NestedViewFollows}
-use Rattle.cd_tree.specs.Outlines.{Outline, IsTree, EachFits, FitsDomain, FitsItems, NamesChildren}
+use Rattle.cd_tree.specs.TreeModel.{TreeModel, IsTree, EachFits, FitsDomain, FitsItems, NamesChildren}
 use Rattle.cd_tree.specs.Domains.{Node, node, Members, no_more, member, put_first, members_by, body_by, node_of, root_of}
 use Rattle.cd_print.specs.Canonical.{Statement, line, lines, canonical, kind_statements, region_statement, fault_statements, end_statement, grouped, body_statements, member_statements, node_statements}
 use Rattle.cd_print.proofs.PrintLemmas.{lines_of_both}
@@ -29,7 +29,7 @@ each_at kinds all at (first ∷ domains) (suc k) domain j fits is same =
     each_at kinds all (suc at) domains k domain j fits.1 is number
 
 -- a domain's items fit
-pub items_fit : (tree : Outline) → IsTree tree → (id : NodeId) (domain : Domain) → slice_get tree.domains id.0 ≡ Some domain
+pub items_fit : (tree : TreeModel) → IsTree tree → (id : NodeId) (domain : Domain) → slice_get tree.domains id.0 ≡ Some domain
     → FitsItems tree.domains id.0 domain.items
 items_fit tree is id domain e = (each_at tree.kinds tree.domains 0 tree.domains id.0 domain id.0 is.each e (omega arith)).items
 
@@ -70,7 +70,7 @@ member_within domains at ids k d h lt =
     slice_get_within domains (get_or ids k d).0 there.0 there.1
 
 -- a member of a group has a nested view
-pub member_seen : NestedViewFollows → (tree : Outline) → IsTree tree → (at : ℕ) (ids : List NodeId) (k : ℕ) (d : NodeId)
+pub member_seen : NestedViewFollows → (tree : TreeModel) → IsTree tree → (at : ℕ) (ids : List NodeId) (k : ℕ) (d : NodeId)
     → NamesChildren tree.domains at ids → k < length ids → (seen : Node) × (node_of tree.domains (get_or ids k d) ≡ Some seen)
 member_seen view tree is at ids k d h lt =
     let there : (domain : Domain) × (slice_get tree.domains (get_or ids k d).0 ≡ Some domain) = member_there tree.domains at ids k d h lt in

@@ -10,9 +10,9 @@ use Rattle.cd_tree.specs.declared.document.Document.{Document}
 use Rattle.cd_tree.specs.declared.domain.Domain.{Domain}
 use Rattle.cd_tree.specs.declared.kinds.KindName.{KindName}
 use Rattle.cd_tree.specs.Laws.{NestedViewFollows}
-use Rattle.cd_tree.specs.Outlines.{Outline, IsTree}
+use Rattle.cd_tree.specs.TreeModel.{TreeModel, IsTree}
 use Rattle.cd_tree.specs.Domains.{Node, node, Body, stop, run, group, Members, no_more, member, node_of, root_of, body_by, node_numbers}
-use Rattle.cd_parse.specs.Draft.{Draft, no_draft, takes_regions, is_closed, may_end, document_of}
+use Rattle.cd_parse.specs.Draft.{DraftModel, no_draft, takes_regions, is_closed, may_end, document_of}
 use Rattle.cd_print.specs.Canonical.{Statement, end_statement, entry_statement, kind_statement, region_statement, strike_statement, grouped, node_statements, body_statements, member_statements, kind_statements, fault_statements, statements, canonical, lifted}
 use Rattle.cd_parse.specs.WellRead.{AreReadKinds, AreReadFaults, FitsVersion, WellRead}
 use Rattle.cd_parse.specs.Reading.{parse}
@@ -79,7 +79,7 @@ first_is_root : (domains : List Domain) → 0 < length domains → node_of domai
 first_is_root [] h = absurd (omega arith)
 first_is_root (domain ∷ domains) h = refl
 
-root_seen : (tree : Outline) → NestedViewFollows → IsTree tree → Seen tree.domains (root_of tree.domains)
+root_seen : (tree : TreeModel) → NestedViewFollows → IsTree tree → Seen tree.domains (root_of tree.domains)
 root_seen tree view is =
     let there : (domain : Domain) × (slice_get tree.domains 0 ≡ Some domain) =
     domain_there tree.domains 0 (λ domain. domain.parent ≡ None) (slice_get tree.domains 0) refl is.root in
@@ -132,21 +132,21 @@ root_fits document view w =
 -- ---- the document
 
 -- what statements make of a draft: a draft that may end and is the document
-record Whole (draft : Draft) (ss : List Statement) (document : Document) : Type 0 where
-  behind : Draft
+record Whole (draft : DraftModel) (ss : List Statement) (document : Document) : Type 0 where
+  behind : DraftModel
   done : Do draft ss behind
   ends : may_end behind.stage ≡ true
   same : document_of behind ≡ document
 
 -- a draft behind its version and its kinds
-abbrev headed : Draft → ℕ → List KindName → Draft
+abbrev headed : DraftModel → ℕ → List KindName → DraftModel
 headed draft version kinds = record no_draft { stage = draft.stage; version = version; kinds = kinds }
 
-staged_takes : (draft : Draft) (regions : List Region) → takes_regions draft.stage ≡ true → takes_regions (staged draft regions).stage ≡ true
+staged_takes : (draft : DraftModel) (regions : List Region) → takes_regions draft.stage ≡ true → takes_regions (staged draft regions).stage ≡ true
 staged_takes draft [] h = h
 staged_takes draft (region ∷ regions) h = refl
 
-faults_whole : (faults : List RawFault) (draft : Draft) → is_closed draft.stage ≡ true → may_end draft.stage ≡ true → AreReadKinds [] draft.kinds → length draft.kinds ≤ 16
+faults_whole : (faults : List RawFault) (draft : DraftModel) → is_closed draft.stage ≡ true → may_end draft.stage ≡ true → AreReadKinds [] draft.kinds → length draft.kinds ≤ 16
     → AreReadFaults draft.regions draft.kinds faults → length draft.faults + length faults ≤ 256
     → Whole draft (fault_statements draft.regions draft.kinds faults) (document_of (record draft { faults = draft.faults ++ faults }))
 faults_whole [] draft closed ends kinds few h all = record {
@@ -172,13 +172,13 @@ rest_of document =
     map region_statement document.regions
     ++ (node_statements document.regions document.tree.kinds (root_of document.tree.domains) ++ fault_statements document.regions document.tree.kinds document.faults)
 
-rest_done : (draft : Draft) (document : Document) → takes_regions draft.stage ≡ true → NestedViewFollows → WellRead document
+rest_done : (draft : DraftModel) (document : Document) → takes_regions draft.stage ≡ true → NestedViewFollows → WellRead document
     → Whole (headed draft document.version document.tree.kinds) (rest_of document) document
 rest_done draft document takes view w =
     let root : Node = root_of document.tree.domains in
-    let start : Draft = headed draft document.version document.tree.kinds in
-    let regioned : Draft = with_regions start document.regions in
-    let closed : Draft = behind_node regioned regioned root in
+    let start : DraftModel = headed draft document.version document.tree.kinds in
+    let regioned : DraftModel = with_regions start document.regions in
+    let closed : DraftModel = behind_node regioned regioned root in
     let fits : RootFits document = root_fits document view w in
     let flat : flat_node root ≡ document.tree.domains = root_flat document view w in
     let can : CanStand regioned regioned root = record {
@@ -220,7 +220,7 @@ whole_document document view w (inl first) =
     record {
       behind = tail.behind;
       done = subst (λ (ss : List Statement). Do no_draft ss tail.behind) (sym (ap (versioned document) first.0))
-          (in_first, first_version, subst (λ (d : Draft). Do d (rest_of document) tail.behind) start tail.done);
+          (in_first, first_version, subst (λ (d : DraftModel). Do d (rest_of document) tail.behind) start tail.done);
       ends = tail.ends;
       same = tail.same;
     }
@@ -235,7 +235,7 @@ whole_document document view w (inr second) =
         second_version,
         do_both in_second (record in_second { kinds = document.tree.kinds }) tail.behind (map kind_statement document.tree.kinds) (rest_of document)
             (kinds_do document.tree.kinds in_second refl w.kinds (omega (arith, w.tree.few_kinds)))
-            (subst (λ (d : Draft). Do d (rest_of document) tail.behind) start tail.done),
+            (subst (λ (d : DraftModel). Do d (rest_of document) tail.behind) start tail.done),
       );
       ends = tail.ends;
       same = tail.same;

@@ -10,7 +10,7 @@ use Rattle.cd_words.specs.Wrongs.{at_line, ◌>>=◌}
 use Rattle.cd_words.specs.Lines as text
 use Rattle.cd_words.specs.Lines.{words}
 use Rattle.cd_words.specs.Blocks.{mark, Marks, no_marks, marked_as, mark_line, marked, marked_lines, line_of, here, blocks}
-use Rattle.cd_parse.specs.Draft.{Draft, no_draft, may_end, document_of}
+use Rattle.cd_parse.specs.Draft.{DraftModel, no_draft, may_end, document_of}
 use Rattle.cd_parse.specs.Statements.{statement_in}
 use Rattle.cd_parse.specs.Reading.{counted, taken, read, ended, parse}
 use Rattle.cd_print.specs.Canonical.{Statement, lines}
@@ -58,50 +58,50 @@ all_marked (statement ∷ statements) number found before h =
 -- ---- steps
 
 -- a draft with another count of lines
-abbrev pub counting : ℕ → Draft → Draft
+abbrev pub counting : ℕ → DraftModel → DraftModel
 counting n draft = record draft { lines = n }
 
 -- what a statement does to a draft, however many lines were before it
-abbrev pub Does : Draft → Statement → Draft → Type 0
+abbrev pub Does : DraftModel → Statement → DraftModel → Type 0
 Does draft statement next = (n : ℕ) → statement_in [] statement (counting n draft) ≡ Ok (counting n next)
 
-abbrev pub Do : Draft → List Statement → Draft → Type 0
+abbrev pub Do : DraftModel → List Statement → DraftModel → Type 0
 Do draft [] behind = draft ≡ behind
-Do draft (statement ∷ statements) behind = (next : Draft) × Does draft statement next × Do next statements behind
+Do draft (statement ∷ statements) behind = (next : DraftModel) × Does draft statement next × Do next statements behind
 
-pub do_both : (draft middle behind : Draft) (front back : List Statement) → Do draft front middle → Do middle back behind → Do draft (front ++ back) behind
-do_both draft middle behind [] back p q = subst (λ (d : Draft). Do d back behind) (sym p) q
+pub do_both : (draft middle behind : DraftModel) (front back : List Statement) → Do draft front middle → Do middle back behind → Do draft (front ++ back) behind
+do_both draft middle behind [] back p q = subst (λ (d : DraftModel). Do d back behind) (sym p) q
 do_both draft middle behind (statement ∷ front) back p q = (p.0, p.1, do_both p.0 middle behind front back p.2 q)
 
-one_counted : (n : ℕ) (draft : Draft) → n < 65536 → counted (counting n draft) ≡ Ok (counting (n + 1) draft)
+one_counted : (n : ℕ) (draft : DraftModel) → n < 65536 → counted (counting n draft) ≡ Ok (counting (n + 1) draft)
 one_counted n draft h =
     chosen (nat_lt n 65536) (Ok (counting (n + 1) draft)) (Err _) (grind (arith, nat_tests))
 
-one_taken : (number n : ℕ) (statement : Statement) (draft next : Draft) → n < 65536 → Does draft statement next
+one_taken : (number n : ℕ) (statement : Statement) (draft next : DraftModel) → n < 65536 → Does draft statement next
     → taken [] (line_of number Says statement) (counting n draft) ≡ Ok (counting (n + 1) next)
 unfolding taken
 one_taken number n statement draft next h does =
-    ap (λ (step : Result Draft Refusal). step >>= λ d. at_line number (statement_in [] statement d)) (one_counted n draft h)
+    ap (λ (step : Result DraftModel Refusal). step >>= λ d. at_line number (statement_in [] statement d)) (one_counted n draft h)
     ∙ ap (at_line number) (does (n + 1))
 
-all_read : (statements : List Statement) (number n : ℕ) (draft behind : Draft) → n + length statements ≤ 65536 → Do draft statements behind
+all_read : (statements : List Statement) (number n : ℕ) (draft behind : DraftModel) → n + length statements ≤ 65536 → Do draft statements behind
     → read (here (blocks (said_lines number statements))) [] (counting n draft) ≡ Ok (counting (n + length statements) behind)
 unfolding read
 all_read [] number n draft behind h does =
     let same : n ≡ n + length {A = Statement} [] = omega arith in
-    ap (λ (d : Draft). Ok (counting n d)) does ∙ ap (λ (m : ℕ). Ok (counting m behind)) same
+    ap (λ (d : DraftModel). Ok (counting n d)) does ∙ ap (λ (m : ℕ). Ok (counting m behind)) same
 all_read (statement ∷ statements) number n draft behind h does =
     let more : n + 1 + length statements ≡ n + length (statement ∷ statements) = omega arith in
-    ap (λ (step : Result Draft Refusal). step >>= λ d. read (here (blocks (said_lines (number + 1) statements))) [] d)
+    ap (λ (step : Result DraftModel Refusal). step >>= λ d. read (here (blocks (said_lines (number + 1) statements))) [] d)
     (one_taken number n statement draft does.0 (omega arith) does.1)
     ∙ all_read statements (number + 1) (n + 1) does.0 behind (omega arith) does.2
     ∙ ap (λ (m : ℕ). Ok (counting m behind)) more
 
-one_ended : (number : ℕ) (draft : Draft) → may_end draft.stage ≡ true → ended number draft ≡ Ok draft
+one_ended : (number : ℕ) (draft : DraftModel) → may_end draft.stage ≡ true → ended number draft ≡ Ok draft
 one_ended number draft h = chosen (may_end draft.stage) (Ok draft) (Err _) h
 
 -- a text of statements is the document of the draft that they make one after another
-pub text_read : (statements : List Statement) (draft : Draft) → AreStatements statements → AreMarked [] statements [] → Do no_draft statements draft
+pub text_read : (statements : List Statement) (draft : DraftModel) → AreStatements statements → AreMarked [] statements [] → Do no_draft statements draft
     → length statements ≤ 65536 → may_end draft.stage ≡ true → parse (lines statements) ≡ Ok (document_of draft)
 unfolding parse marked_lines
 text_read statements draft clean marks does few ends =
@@ -109,5 +109,5 @@ text_read statements draft clean marks does few ends =
     let layout : marked 1 no_marks (map words (text.lines (lines statements))) ≡ Ok (said_lines 1 statements) =
     ap (marked 1 no_marks) (lines_back statements clean) ∙ all_marked statements 1 [] [] marks in
     ap (λ (ls : Result (List Line) Refusal). (ls >>= λ found. read (here (blocks found)) [] no_draft >>= ended number) >>= λ d. Ok (document_of d)) layout
-    ∙ ap (λ (step : Result Draft Refusal). (step >>= ended number) >>= λ d. Ok (document_of d)) (all_read statements 1 0 no_draft draft (omega (arith, few)) does)
-    ∙ ap (λ (step : Result Draft Refusal). step >>= λ d. Ok (document_of d)) (one_ended number (counting (0 + length statements) draft) ends)
+    ∙ ap (λ (step : Result DraftModel Refusal). (step >>= ended number) >>= λ d. Ok (document_of d)) (all_read statements 1 0 no_draft draft (omega (arith, few)) does)
+    ∙ ap (λ (step : Result DraftModel Refusal). step >>= λ d. Ok (document_of d)) (one_ended number (counting (0 + length statements) draft) ends)

@@ -10,7 +10,7 @@ use Rattle.cd_tree.specs.declared.domain.Item.TheVariants.{Run, Group}
 use Rattle.cd_tree.specs.declared.domain.Domain.{Domain}
 use Rattle.cd_tree.specs.declared.kinds.KindName.{KindName}
 use Rattle.cd_tree.specs.Laws.{NestedViewFollows}
-use Rattle.cd_tree.specs.Outlines.{Outline, IsTree, FitsItems, FitsDomain, NamesChildren}
+use Rattle.cd_tree.specs.TreeModel.{TreeModel, IsTree, FitsItems, FitsDomain, NamesChildren}
 use Rattle.cd_tree.specs.Domains.{Node, node, Body, stop, run, group, Members, no_more, member, put_first, members_by, body_by, node_of, node_numbers, body_numbers, member_numbers, node_depth, body_depth, members_depth, numbers_from}
 use Rattle.cd_parse.specs.WellRead.{AreReadDomains, AreReadItems, IsReadDomain}
 use Rattle.cd_print.proofs.ProgramLemmas.{each_at, domain_there}
@@ -33,7 +33,7 @@ abbrev mutual
   ShowsMembers domains no_more ids = ids ≡ []
   ShowsMembers domains (member first rest) ids = (more : List NodeId) × (ids ≡ id_of first ∷ more) × Seen domains first × ShowsMembers domains rest more
 
-shows_members : NestedViewFollows → (tree : Outline) → IsTree tree → (at : ℕ) (ids : List NodeId) → NamesChildren tree.domains at ids
+shows_members : NestedViewFollows → (tree : TreeModel) → IsTree tree → (at : ℕ) (ids : List NodeId) → NamesChildren tree.domains at ids
     → ShowsMembers tree.domains (members_by (node_of tree.domains) ids) ids
 shows_members view tree is at [] h = refl
 shows_members view tree is at (id ∷ ids) h =
@@ -43,7 +43,7 @@ shows_members view tree is at (id ∷ ids) h =
     (sym (view tree is id there.0 there.1))
     (ids, refl, (there.1, refl), shows_members view tree is at ids h.2)
 
-pub shows_body : NestedViewFollows → (tree : Outline) → IsTree tree → (at : ℕ) (items : List Item) → FitsItems tree.domains at items
+pub shows_body : NestedViewFollows → (tree : TreeModel) → IsTree tree → (at : ℕ) (items : List Item) → FitsItems tree.domains at items
     → ShowsBody tree.domains (body_by (node_of tree.domains) items) items
 shows_body view tree is at [] h = refl
 shows_body view tree is at (Run op ∷ items) h = (items, refl, shows_body view tree is at items h.2)
@@ -101,7 +101,7 @@ read_at regions (one ∷ domains) zero domain h there = subst (IsReadDomain regi
 read_at regions (one ∷ domains) (suc k) domain h there = read_at regions domains k domain h.1 there
 
 -- a program, and what a text says of it
-pub record Told (regions : List Region) (tree : Outline) : Type 0 where
+pub record Told (regions : List Region) (tree : TreeModel) : Type 0 where
   pub view : NestedViewFollows
   pub is : IsTree tree
   pub read : AreReadDomains regions tree.domains
@@ -112,7 +112,7 @@ parent_is domains k at domain None there e h = absurd h
 parent_is domains k at domain (Some one) there e h = subst (λ (d : Domain). d.parent ≡ Some (record { 0 = at })) (same_Some one domain (e ∙ there)) h
 
 mutual
-  pub node_told : (n : Node) (regions : List Region) (tree : Outline) (k : ℕ) (parent : Option NodeId) (depth : ℕ) (above : (d : Domain) → slice_get tree.domains (id_of n).0 ≡ Some d → d.parent ≡ parent)
+  pub node_told : (n : Node) (regions : List Region) (tree : TreeModel) (k : ℕ) (parent : Option NodeId) (depth : ℕ) (above : (d : Domain) → slice_get tree.domains (id_of n).0 ≡ Some d → d.parent ≡ parent)
       → Told regions tree → Seen tree.domains n → GoUp k (node_numbers n) → depth + node_depth n ≤ 16 → ToldNode regions tree.kinds k parent depth n
   node_told (node id domain body) regions tree k parent depth above t seen up deep =
       let fits : FitsDomain tree.kinds tree.domains id.0 domain = each_at tree.kinds tree.domains 0 tree.domains id.0 domain id.0 t.is.each seen.0 (omega arith) in
@@ -136,7 +136,7 @@ mutual
         body_told body regions tree id.0 (k + 1) (depth + 1) domain.items t shown fits.items read.items next (omega (arith, deep)),
       )
 
-  body_told : (b : Body) (regions : List Region) (tree : Outline) (at k depth : ℕ) (items : List Item) → Told regions tree → ShowsBody tree.domains b items
+  body_told : (b : Body) (regions : List Region) (tree : TreeModel) (at k depth : ℕ) (items : List Item) → Told regions tree → ShowsBody tree.domains b items
       → FitsItems tree.domains at items → AreReadItems regions items → GoUp k (body_numbers b) → depth + body_depth b ≤ 16 → ToldBody regions tree.kinds at k depth b
   body_told stop regions tree at k depth items t shown fits read up deep = tt
   body_told (run op rest) regions tree at k depth items t shown fits read up deep =
@@ -154,7 +154,7 @@ mutual
             (up_back k (member_numbers ms) (body_numbers rest) (k + length (flat_members ms)) up (omega (arith, members_size ms))) (omega (arith, deep)),
       )
 
-  members_told : (ms : Members) (regions : List Region) (tree : Outline) (at k depth : ℕ) (ids : List NodeId) → Told regions tree → ShowsMembers tree.domains ms ids
+  members_told : (ms : Members) (regions : List Region) (tree : TreeModel) (at k depth : ℕ) (ids : List NodeId) → Told regions tree → ShowsMembers tree.domains ms ids
       → NamesChildren tree.domains at ids → GoUp k (member_numbers ms) → depth + members_depth ms ≤ 16 → ToldMembers regions tree.kinds at k depth ms
   members_told no_more regions tree at k depth ids t shown named up deep = tt
   members_told (member first rest) regions tree at k depth ids t shown named up deep =

@@ -1,6 +1,6 @@
 ghost use Rattle.std.specs.Prelude.{◌≡◌, ◌≤◌, ◌++◌, length, map, IfOk, OnOk, string_bytes};
 ghost use Rattle.cd_base.specs.Ends.{WriteAll};
-ghost use Rattle.cd_tree.specs.Outlines.{Outline};
+ghost use Rattle.cd_tree.specs.TreeModel.{TreeModel};
 ghost use Rattle.cd_tree.specs.Domains.{root_of};
 ghost use Rattle.cd_print.specs.Canonical.{canonical, lines, kind_statement, kind_statements, region_statement, fault_statements, strike_statement, node_statements};
 

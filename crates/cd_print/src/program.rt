@@ -1,6 +1,6 @@
 ghost use Rattle.std.specs.Prelude.{◌≡◌, ◌<◌, ◌++◌, [], ◌∷◌, length, map, OnOk, string_bytes};
 ghost use Rattle.cd_tree.specs.declared.domain.Item.TheVariants.{Group};
-ghost use Rattle.cd_tree.specs.Outlines.{IsTree, FitsItems, NamesChildren};
+ghost use Rattle.cd_tree.specs.TreeModel.{IsTree, FitsItems, NamesChildren};
 ghost use Rattle.cd_tree.specs.Domains.{node_of, body_by, members_by};
 ghost use Rattle.cd_print.specs.Canonical.{lines, entry_statement, body_statements, member_statements};
 

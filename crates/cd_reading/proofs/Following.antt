@@ -1,15 +1,13 @@
 -- What each step of the walk needs and gives, as its answers cite it.
-use Rattle.std.proofs.Common.{◌≡◌, ℕ, zero, suc, ◌+◌, ◌-◌, ◌<◌, ◌≤◌, ◌^◌, Bool, true, false, cond, nat_lt, List, [], ◌∷◌, Option, Some, length, drop, get_or, set, slice_get, slice_index, refl, sym, ap, ◌∙◌, subst, arith}
-use Rattle.std.proofs.lemmas.Bool.{eq-eqb, ltb-true}
+use Rattle.std.proofs.Common.{◌≡◌, ℕ, zero, suc, ◌+◌, ◌-◌, ◌<◌, ◌≤◌, ◌^◌, Bool, true, false, cond, List, [], ◌∷◌, Option, Some, length, drop, get_or, set, slice_get, slice_index, refl, sym, ap, ◌∙◌, subst, arith}
+use Rattle.std.proofs.lemmas.Bool.{eq-eqb}
 use Rattle.std.proofs.lemmas.List.{at_drop_more, drop_all}
-use Rattle.std.proofs.lemmas.Nat.{or_lt, pow_below}
-use Rattle.cd_tree.specs.KindSets.{no_kinds, only_kind, halting, halting_from}
+use Rattle.cd_tree.specs.KindSets.{no_kinds}
 use Rattle.cd_tree.specs.declared.domain.NodeId.{NodeId}
 use Rattle.cd_tree.specs.declared.domain.Domain.{Domain}
 use Rattle.cd_tree.specs.declared.domain.Item.{Item}
 use Rattle.cd_tree.specs.declared.domain.Item.TheVariants.{Run, Group}
-use Rattle.cd_tree.specs.declared.kinds.KindName.{KindName}
-use Rattle.cd_tree.specs.Outlines.{Outline, IsTree, FitsItems, NamesChildren}
+use Rattle.cd_tree.specs.TreeModel.{TreeModel, IsTree, FitsItems, NamesChildren}
 use Rattle.cd_tree.specs.Domains.{Node, Body, members_by, body_by, node_of}
 use Rattle.cd_tree.specs.Laws.{NestedViewFollows}
 use Rattle.cd_tree.specs.Reading.{Case, Counts, counted, Told, TryEnd, NodeEnd, GroupEnd, Try, tries, read_node, read_points, read_members, read_try}
@@ -18,25 +16,6 @@ use Rattle.cd_reading.specs.Walk.{the_node, listed, AreCounts, item_counts}
 use Rattle.cd_reading.proofs.Quiet.{TriesLeft, tries_all}
 use Rattle.cd_reading.proofs.Rises.{Rises, rises_on, counted_rises, tries_rise, try_rises}
 use Rattle.cd_reading.proofs.Walking.{PointsLeft, MembersLeft, view_is, counts_same, counts_below, count_set, dropped}
-
--- ---- the kinds that halt are among sixteen
-
-only_small : (k : ℕ) (b : Bool) → (b ≡ true → k < 16) → cond b (2 ^ k) 0 < 2 ^ 16
-only_small k true few = pow_below k 16 (few refl)
-only_small k false few = omega arith
-
-halts_small : (at : ℕ) (names : List KindName) → halting_from at names < 2 ^ 16
-halts_small at [] = omega arith
-halts_small at (name ∷ names) =
-    or_lt 16 (cond name.halts (only_kind (record { 0 = at })) 0) (halting_from (at + 1) names)
-    (by name.halts) (halts_small (at + 1) names)
-  where
-    by : (b : Bool) → cond b (only_kind (record { 0 = at })) 0 < 2 ^ 16
-    by true = only_small at (nat_lt at 16) (λ e. ltb-true at 16 e)
-    by false = omega arith
-
-pub halting_small : (names : List KindName) (halts : ℕ) → halts ≡ halting names → halts < 2 ^ 16
-halting_small names halts is = subst (λ (n : ℕ). n < 2 ^ 16) (sym is) (halts_small 0 names)
 
 -- ---- items
 
@@ -97,7 +76,7 @@ members_none w domains at so counts ids i whole past left =
 
 -- ---- tries
 
-pub tries_begin : (w : Case) (tree : Outline) → IsTree tree → NestedViewFollows → (id : NodeId) (domain : Domain) (now : Counts)
+pub tries_begin : (w : Case) (tree : TreeModel) → IsTree tree → NestedViewFollows → (id : NodeId) (domain : Domain) (now : Counts)
     → slice_get tree.domains id.0 ≡ Some domain
     → TriesLeft w id domain (body_by (node_of tree.domains) domain.items) (domain.retry - 1) now (read_node w (the_node tree.domains id) now)
 tries_begin w tree is views id domain now there =

@@ -12,7 +12,7 @@ use Rattle.cd_tree.specs.declared.domain.Item.TheVariants.{Run, Group}
 use Rattle.cd_tree.specs.declared.document.Fault.{Fault}
 use Rattle.cd_tree.specs.declared.kinds.KindName.{KindName}
 use Rattle.cd_tree.specs.Scripts.{struck, kinds_of}
-use Rattle.cd_tree.specs.Outlines.{Outline, IsTree, FitsDomain, EachFits, NamesChildren}
+use Rattle.cd_tree.specs.TreeModel.{TreeModel, IsTree, FitsDomain, EachFits, NamesChildren}
 use Rattle.cd_tree.specs.Domains.{Node, Members, node, members_by, body_by, put_first, node_of, nodes_from, root_of, first_of_all}
 use Rattle.cd_tree.specs.Laws.{NestedViewFollows}
 use Rattle.cd_tree.specs.Reading.{Case, Counts, counted, Told, told, silence, TryEnd, NodeEnd, GroupEnd, ends_joined, Try, unless_halted, arrived, detected, with_member, read_node, read_points, read_members, read_try}
@@ -45,19 +45,19 @@ fits_at kinds all at (first ∷ rest) (suc k) domain (here, each) there =
     let sum : at + suc k ≡ suc at + k = omega arith in
     rw sum (fits_at kinds all (suc at) rest k domain each there)
 
-pub tree_fits : (tree : Outline) → IsTree tree → (id : NodeId) (domain : Domain) → slice_get tree.domains id.0 ≡ Some domain
+pub tree_fits : (tree : TreeModel) → IsTree tree → (id : NodeId) (domain : Domain) → slice_get tree.domains id.0 ≡ Some domain
     → FitsDomain tree.kinds tree.domains id.0 domain
 tree_fits tree is id domain there =
     subst (λ n. FitsDomain tree.kinds tree.domains n domain) (zero-add id.0)
     (fits_at tree.kinds tree.domains 0 tree.domains id.0 domain is.each there)
 
 -- the view of a domain, by its number
-pub view_is : (tree : Outline) → IsTree tree → NestedViewFollows → (id : NodeId) (domain : Domain) → slice_get tree.domains id.0 ≡ Some domain
+pub view_is : (tree : TreeModel) → IsTree tree → NestedViewFollows → (id : NodeId) (domain : Domain) → slice_get tree.domains id.0 ≡ Some domain
     → the_node tree.domains id ≡ node id domain (body_by (node_of tree.domains) domain.items)
 view_is tree is views id domain there =
     ap (λ (o : Option Node). unwrap_or o (root_of tree.domains)) (views tree is id domain there)
 
-pub found_is : (tree : Outline) → IsTree tree → NestedViewFollows → (id : NodeId) (domain : Domain) → slice_get tree.domains id.0 ≡ Some domain
+pub found_is : (tree : TreeModel) → IsTree tree → NestedViewFollows → (id : NodeId) (domain : Domain) → slice_get tree.domains id.0 ≡ Some domain
     → node_of tree.domains id ≡ Some (the_node tree.domains id)
 found_is tree is views id domain there = views tree is id domain there ∙ ap (λ (d : Node). Some d) (sym (view_is tree is views id domain there))
 
@@ -266,13 +266,13 @@ unfolding read_node read_points read_members
 first_read w found d rest counts is = ap (λ (o : Option Node). read_members w (put_first o rest) counts) is
 
 -- the first member that is left is there
-pub member_here : (tree : Outline) (at : ℕ) (id : NodeId) (ids : List NodeId) → NamesChildren tree.domains at (id ∷ ids)
+pub member_here : (tree : TreeModel) (at : ℕ) (id : NodeId) (ids : List NodeId) → NamesChildren tree.domains at (id ∷ ids)
     → (at < id.0) × (id.0 < length tree.domains) × ((domain : Domain) × (slice_get tree.domains id.0 ≡ Some domain))
 member_here tree at id ids named =
     let child = some_of (slice_get tree.domains id.0) (λ d. d.parent ≡ Some (record { 0 = at })) named.1 in
     (named.0, slice_get_within tree.domains id.0 child.0 child.1, (child.0, child.1))
 
-pub member_few : (w : Case) (tree : Outline) → IsTree tree → NestedViewFollows → (at : ℕ) (so : GroupEnd) (counts : Counts) (id : NodeId) (ids : List NodeId)
+pub member_few : (w : Case) (tree : TreeModel) → IsTree tree → NestedViewFollows → (at : ℕ) (so : GroupEnd) (counts : Counts) (id : NodeId) (ids : List NodeId)
     (whole : Told GroupEnd) → AreCounts whole.counts → MembersLeft w tree.domains at so counts (id ∷ ids) whole
     → AreCounts (read_node w (the_node tree.domains id) counts).counts
 member_few w tree is views at so counts id ids whole few left =
@@ -287,7 +287,7 @@ member_few w tree is views at so counts id ids whole few left =
     ∙ ap (λ (p : Counts × GroupEnd). p.0) left.same in
     counts_below t.counts last (members_rise w rest t.counts) (counts_same last whole.counts same few)
 
-pub member_read : (w : Case) (tree : Outline) → IsTree tree → NestedViewFollows → (at : ℕ) (so more : GroupEnd) (counts now : Counts) (end : NodeEnd) (id : NodeId)
+pub member_read : (w : Case) (tree : TreeModel) → IsTree tree → NestedViewFollows → (at : ℕ) (so more : GroupEnd) (counts now : Counts) (end : NodeEnd) (id : NodeId)
     (ids : List NodeId) (whole : Told GroupEnd) → quiet (read_node w (the_node tree.domains id) counts) ≡ (now, end)
     → more ≡ groups_joined so (alone end) → MembersLeft w tree.domains at so counts (id ∷ ids) whole → MembersLeft w tree.domains at more now ids whole
 member_read w tree is views at so more counts now end id ids whole read more_is left =

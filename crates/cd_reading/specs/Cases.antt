@@ -2,7 +2,7 @@
 use Rattle.std.specs.Prelude.{◌≡◌, ◌<◌, ◌^◌, List, length}
 use Rattle.cd_tree.specs.declared.domain.Domain.{Domain}
 use Rattle.cd_tree.specs.KindSets.{halting}
-use Rattle.cd_tree.specs.Outlines.{IsTree}
+use Rattle.cd_tree.specs.TreeModel.{IsTree}
 use Rattle.cd_tree.specs.Reading as reading
 use Rattle.cd_tree.specs.Record.{case_of}
 use Rattle.cd_reading.specs.declared.case.Case.{Case}

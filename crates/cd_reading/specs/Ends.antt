@@ -1,5 +1,5 @@
 -- The ends of tries, domains and groups that the code has, as the reading has them.
-use Rattle.std.specs.Prelude.{ℕ, ◌^◌, ◌<◌, Bool, true, false, bit_or}
+use Rattle.std.specs.Prelude.{ℕ, ◌<◌, Bool, true, false, bit_or}
 use Rattle.cd_tree.specs.KindSets.{no_kinds}
 use Rattle.cd_tree.specs.Reading as reading
 use Rattle.cd_tree.specs.Reading.{Blame, blame, TryEnd, NodeEnd, GroupEnd}
@@ -27,26 +27,22 @@ abbrev pub group_end : Grouped → GroupEnd
 group_end (AllDone leaks) = reading.AllDone leaks
 group_end (SomeEscalated cause over) = reading.SomeEscalated (blame_of cause) over
 
--- what the code knows of an end: a cause is among so many domains, and only kinds are left over
-abbrev pub CauseFits : ℕ → Blamed → ℕ → Type 0
-CauseFits count cause over = (cause.node.0 < count) × (over < 2 ^ 16)
+-- what the code knows of an end: a cause is among so many domains
+abbrev pub CauseFits : ℕ → Blamed → Type 0
+CauseFits count cause = cause.node.0 < count
 
 abbrev pub TryFits : ℕ → Tried → Type 0
 TryFits count (Passed leak) = Unit {0}
-TryFits count (Failed cause) = CauseFits count cause 0
-TryFits count (Broken cause over) = CauseFits count cause over
+TryFits count (Failed cause) = CauseFits count cause
+TryFits count (Broken cause over) = CauseFits count cause
 
 abbrev pub NodeFits : ℕ → Ended → Type 0
 NodeFits count (Done leak) = Unit {0}
-NodeFits count (Escalated cause over) = CauseFits count cause over
+NodeFits count (Escalated cause over) = CauseFits count cause
 
 abbrev pub GroupFits : ℕ → Grouped → Type 0
 GroupFits count (AllDone leaks) = Unit {0}
-GroupFits count (SomeEscalated cause over) = CauseFits count cause over
-
-abbrev pub IsSmallGroup : Grouped → Type 0
-IsSmallGroup (AllDone leaks) = Unit {0}
-IsSmallGroup (SomeEscalated cause over) = over < 2 ^ 16
+GroupFits count (SomeEscalated cause over) = CauseFits count cause
 
 -- whether a try failed, so that another may follow
 abbrev pub has_failed : TryEnd → Bool

@@ -3,10 +3,9 @@ ghost use Rattle.std.specs.Prelude.{◌≡◌, ◌<◌, filter, length, IfOk};
 ghost use Rattle.cd_reading.specs.Cases.{IsCase, domains_of};
 ghost use Rattle.cd_reading.specs.Strikes.{strikes_in};
 
-use crate::sets::halting;
 use crate::strikes::{Struck, all_struck, struck_in};
 use cd_base::{Items, NoMemory};
-use cd_tree::{Fault, Kinds, NodeId, Script, Tree};
+use cd_tree::{Fault, Kinds, NodeId, Script, Tree, halting};
 use std::alloc::Global;
 
 // A program and its script: the kinds that halt, and the faults by domain and begin.

@@ -1,5 +1,5 @@
 // How a try, a domain and a group end.
-ghost use Rattle.std.specs.Prelude.{◌≡◌, ℕ, ◌<◌, ◌^◌};
+ghost use Rattle.std.specs.Prelude.{◌≡◌, ℕ};
 ghost use Rattle.cd_tree.specs.Reading as reading;
 ghost use Rattle.cd_tree.specs.Reading.{Blame};
 ghost use Rattle.cd_reading.specs.Ends.{try_end, node_end, group_end, last_end, has_failed, groups_joined, alone, TryFits, NodeFits, GroupFits};
@@ -88,8 +88,7 @@ impl Ended {
 
     // What is left over of a group in which a member before this one escalates.
     fn over_behind(self, over: Kinds) -> Kinds
-        ensures over { (cause : Blame) → reading.SomeEscalated cause result ≡ groups_joined (reading.SomeEscalated cause over) (alone (node_end self)) }
-        ensures small { (count : ℕ) → over < 2 ^ 16 → NodeFits count self → result < 2 ^ 16 }
+        ensures { (cause : Blame) → reading.SomeEscalated cause result ≡ groups_joined (reading.SomeEscalated cause over) (alone (node_end self)) }
     {
         match self {
             Ended::Done(_) => over,

@@ -3,7 +3,6 @@
 
 mod case;
 mod ends;
-mod sets;
 mod steps;
 mod strikes;
 #[cfg(test)]
@@ -11,5 +10,4 @@ mod tests;
 mod through;
 mod walk;
 
-pub use sets::halting;
 pub use through::{Reading, read_through};

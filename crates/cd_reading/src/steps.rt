@@ -1,12 +1,11 @@
 // The steps of a try: how it comes to a point, how it goes on behind a group, how it is judged at the end.
-ghost use Rattle.std.specs.Prelude.{◌≡◌, ◌==◌, ◌<◌, ◌^◌, ℕ, bit_and, bit_or};
+ghost use Rattle.std.specs.Prelude.{◌≡◌, ◌==◌, ◌<◌, ℕ, bit_and, bit_or};
 ghost use Rattle.cd_tree.specs.KindSets.{no_kinds, kinds_without};
 ghost use Rattle.cd_tree.specs.Reading.{Counts, Told, TryEnd, halted, unless_halted, stopped, group_ended, detected};
-ghost use Rattle.cd_reading.specs.Ends.{blame_of, try_end, group_end, TryFits, GroupFits, IsSmallGroup};
+ghost use Rattle.cd_reading.specs.Ends.{blame_of, try_end, group_end, TryFits, GroupFits};
 ghost use Rattle.cd_reading.specs.Steps.{quiet, try_of, went, StepFits};
 
 use crate::ends::{Blamed, Grouped, Tried};
-use crate::sets::without;
 use cd_tree::{Kinds, NodeId};
 
 // The try in hand: its domain, the kinds that this declares, and the number of this begin.
@@ -27,7 +26,6 @@ pub(crate) enum Step {
 impl Try {
     // The try comes to a point at which faults of these kinds strike.
     pub(crate) fn arrive(&self, halts: Kinds, kinds: Kinds, notes: Kinds) -> Step
-        requires { halts < 2 ^ 16 }
         ensures step { (counts : Counts) (next : ℕ → Told TryEnd) → quiet (unless_halted (try_of self.now) (bit_and kinds halts) (bit_or notes kinds) counts next (bit_and kinds halts == no_kinds)) ≡ quiet (went result counts next) }
         ensures fits { (count : ℕ) → self.now.node.0 < count → StepFits count result }
     {
@@ -40,11 +38,10 @@ impl Try {
 
     // The try ends at a point: it fails where its domain declares all of these halting kinds, else it breaks off.
     fn halt(&self, halting: Kinds, notes: Kinds) -> Tried
-        requires { halting < 2 ^ 16 }
         ensures end { (counts : Counts) → quiet (halted (try_of self.now) halting notes counts (kinds_without halting self.now.detects == no_kinds)) ≡ (counts, try_end result) }
         ensures fits { (count : ℕ) → self.now.node.0 < count → TryFits count result }
     {
-        let over = without(halting, self.detects);
+        let over = halting.without(self.detects);
         if over.is_none() {
             return Tried::Failed(self.blame(notes.meet(self.detects)));
         }
@@ -53,7 +50,6 @@ impl Try {
 
     // The try goes on behind a group whose members all complete; else it is over.
     pub(crate) fn behind(&self, end: Grouped, notes: Kinds) -> Step
-        requires { IsSmallGroup end }
         ensures step { (counts : Counts) (next : ℕ → Counts → Told TryEnd) → quiet (group_ended (try_of self.now) notes counts (group_end end) next) ≡ quiet (went result counts (λ seen. next seen counts)) }
         ensures fits { (count : ℕ) → GroupFits count end → StepFits count result }
     {
@@ -65,11 +61,10 @@ impl Try {
 
     // The try fails where its domain declares all that a group leaves over, else it breaks off.
     fn stop(&self, cause: Blamed, over: Kinds) -> Tried
-        requires { over < 2 ^ 16 }
         ensures end { try_end result ≡ stopped (blame_of cause) (kinds_without over self.now.detects) (kinds_without over self.now.detects == no_kinds) }
         ensures fits { (count : ℕ) → cause.node.0 < count → TryFits count result }
     {
-        let left = without(over, self.detects);
+        let left = over.without(self.detects);
         if left.is_none() {
             return Tried::Failed(cause);
         }

@@ -1,11 +1,12 @@
-// The faults of a script by the domain and the begin at which they strike.
-ghost use Rattle.std.specs.Prelude.{◌≡◌, ◌≢◌, ◌↔◌, ◌<◌, ◌≤◌, ◌^◌, ℕ, List, All, IsTrue, filter, length, IfOk, OnOk};
+// The faults of a script by the domain and the begin at which they strike, and the kinds that strike at a point.
+ghost use Rattle.std.specs.Prelude.{◌≡◌, ◌≢◌, ◌↔◌, ◌==◌, ◌<◌, ◌≤◌, ◌^◌, ℕ, List, All, IsTrue, filter, length, IfOk, OnOk};
+ghost use Rattle.cd_tree.specs.Scripts.{kinds_of};
 ghost use Rattle.cd_tree.specs.declared.document.Fault.{Fault};
 ghost use Rattle.cd_reading.specs.Strikes.{strikes_in, AreStruck, AreAllStruck};
 ghost use Rattle.cd_reading.specs.declared.strikes.Struck.{Struck};
 
 use cd_base::{Items, NoMemory};
-use cd_tree::{Fault, NodeId, Script};
+use cd_tree::{Fault, Kinds, NodeId, Script};
 use std::alloc::Global;
 
 // The faults of one begin of a domain, in script order.
@@ -86,4 +87,17 @@ pub(crate) fn struck_in(begins: &[Struck], begin: u64) -> &[Fault]
         }
     }
     &[]
+}
+
+// The kinds of the faults that strike at a point.
+pub(crate) fn kinds_at(faults: &[Fault], point: u32) -> Kinds
+    ensures { result ≡ kinds_of (filter (λ (fault : Fault). fault.item == point) faults.now) }
+{
+    let mut kinds = Kinds::none();
+    for fault in faults {
+        if fault.item == point {
+            kinds = kinds.with(fault.kind);
+        }
+    }
+    kinds
 }

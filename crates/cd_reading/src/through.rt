@@ -1,5 +1,5 @@
 ghost use Rattle.std.specs.Prelude.{◌≡◌, ◌+◌, ◌<◌, ◌≤◌, ℕ, List, All, length, IfOk};
-ghost use Rattle.cd_tree.specs.Outlines.{IsTree};
+ghost use Rattle.cd_tree.specs.TreeModel.{IsTree};
 ghost use Rattle.cd_tree.specs.Record.{cause_of};
 ghost use Rattle.cd_tree.specs.Scripts.{path_of};
 ghost use Rattle.cd_reading.specs.Ends.{node_end, NodeFits};

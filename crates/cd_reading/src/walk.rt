@@ -2,17 +2,17 @@
 ghost use Rattle.std.specs.Prelude.{◌≡◌, ◌<◌, ◌^◌, ℕ, [], ◌∷◌, Some, length, slice_get, true};
 ghost use Rattle.cd_tree.specs.Domains.{body_by, members_by, node_of};
 ghost use Rattle.cd_tree.specs.KindSets.{no_kinds};
-ghost use Rattle.cd_tree.specs.Outlines.{FitsItems, NamesChildren};
+ghost use Rattle.cd_tree.specs.TreeModel.{FitsItems, NamesChildren};
 ghost use Rattle.cd_tree.specs.Reading.{Counts, Told, TryEnd, read_node, read_try, read_points, read_members};
 ghost use Rattle.cd_reading.specs.Cases.{IsCase, domains_of, given};
-ghost use Rattle.cd_reading.specs.Ends.{try_end, node_end, group_end, TryFits, NodeFits, GroupFits, IsSmallGroup};
+ghost use Rattle.cd_reading.specs.Ends.{try_end, node_end, group_end, TryFits, NodeFits, GroupFits};
 ghost use Rattle.cd_reading.specs.Steps.{quiet, try_of, went, StepFits};
 ghost use Rattle.cd_reading.specs.Walk.{the_node, listed, AreCounts, item_read, item_counts};
 
 use crate::case::Case;
 use crate::ends::{Ended, Grouped, Tried};
-use crate::sets::kinds_at;
 use crate::steps::{Step, Try};
+use crate::strikes::kinds_at;
 use cd_tree::{Domain, Item, Kinds, NodeId, laws};
 
 // A domain from its begin to its end: as many tries as it has, while they fail.
@@ -119,7 +119,6 @@ fn read_all_members(case: &Case, parent: NodeId, ids: &[NodeId], counts: &mut [u
     requires counts { AreCounts (read_members (given case.now) (members_by (node_of (domains_of case.now)) ids.now) (listed counts.old)).counts }
     ensures reads { quiet (read_members (given case.now) (members_by (node_of (domains_of case.now)) ids.now) (listed counts.old)) ≡ (listed counts.new, group_end result) }
     ensures fits { GroupFits (length (domains_of case.now)) result }
-    ensures small { IsSmallGroup result }
 {
     laws::the_nested_view_follows_the_list();
     let mut ends = Grouped::AllDone(Kinds::none());

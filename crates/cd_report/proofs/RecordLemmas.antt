@@ -12,7 +12,7 @@ use Rattle.std.proofs.lemmas.Bool.{cases_lt, false≢true}
 use Rattle.cd_base.specs.declared.place.Place.{Place}
 use Rattle.cd_base.specs.declared.sink.WriteStop.{WriteStop}
 use Rattle.cd_base.specs.declared.sink.WriteStop.TheVariants as write
-use Rattle.cd_base.specs.Ends.{AppendsFront, WriteAll}
+use Rattle.cd_base.specs.Ends.{SinkModel, Grew, GrewByFront, WriteAll}
 use Rattle.cd_base.proofs.EndLemmas.{Rose-before}
 use Rattle.cd_tree.specs.declared.domain.NodeId.{NodeId}
 use Rattle.cd_tree.specs.declared.document.Region.{Region}
@@ -167,109 +167,105 @@ pub piece_some : (kinds : List KindName) (regions : List Region) (events : List 
 piece_some kinds regions events k n h p =
     text_some kinds regions (take n (drop k events)) (omega (arith, length-take n (drop k events), length-drop k events, h, p))
 
--- what was written of a whole text before now, and what is left of it; the count of faults did not fall
-pub record WroteSome (old now : Option (List ℕ)) (before after : ℕ) (rest whole : List ℕ) : Type 0 where
+-- what was written of a whole text before now, and what is left of it
+pub record WroteSome (old now : SinkModel) (rest whole : List ℕ) : Type 0 where
   pub done : List ℕ
-  pub grew : Appends old now done
+  pub grew : Grew old now done
   pub split : done ++ rest ≡ whole
-  pub count : before ≤ after
 
 appends_none : (old : Option (List ℕ)) → Appends old old []
 appends_none None = tt
 appends_none (Some bytes) = sym (append-nil bytes)
 
+grew_none : (old : SinkModel) → Grew old old []
+grew_none old = (appends_none old.holds, omega arith)
+
+grew_more : (old now new : SinkModel) (first second : List ℕ) → Grew old now first → Grew now new second → Grew old new (first ++ second)
+grew_more old now new first second a b = (Appends-trans old.holds now.holds new.holds first second a.0 b.0, omega (arith, a.1, b.1))
+
 -- at first nothing was written
-pub wrote_none : (old : Option (List ℕ)) (faults : ℕ) (whole : List ℕ) → WroteSome old old faults faults whole whole
-wrote_none old faults whole = record { done = []; grew = appends_none old; split = refl; count = omega arith }
+pub wrote_none : (old : SinkModel) (whole : List ℕ) → WroteSome old old whole whole
+wrote_none old whole = record { done = []; grew = grew_none old; split = refl }
 
 -- then the next piece was written
-pub wrote_next : (old now new : Option (List ℕ)) (before at after : ℕ) (piece rest whole : List ℕ)
-    → WroteSome old now before at (piece ++ rest) whole → Appends now new piece → at ≤ after → WroteSome old new before after rest whole
-wrote_next old now new before at after piece rest whole w a h = record {
+pub wrote_next : (old now new : SinkModel) (piece rest whole : List ℕ) → WroteSome old now (piece ++ rest) whole → Grew now new piece
+    → WroteSome old new rest whole
+wrote_next old now new piece rest whole w a = record {
   done = w.done ++ piece;
-  grew = Appends-trans old now new w.done piece w.grew a;
+  grew = grew_more old now new w.done piece w.grew a;
   split = append_assoc w.done piece rest ∙ w.split;
-  count = omega (arith, w.count);
 }
 
 -- at last nothing is left
-pub wrote_all : (old now : Option (List ℕ)) (before at : ℕ) (whole : List ℕ) → WroteSome old now before at [] whole → Appends old now whole
-wrote_all old now before at whole w = subst (Appends old now) (sym (append-nil w.done) ∙ w.split) w.grew
+pub wrote_all : (old now : SinkModel) (whole : List ℕ) → WroteSome old now [] whole → Grew old now whole
+wrote_all old now whole w = subst (Grew old now) (sym (append-nil w.done) ∙ w.split) w.grew
 
 -- a front of the next piece is a front of the whole
-pub wrote_front : (old now new : Option (List ℕ)) (before at : ℕ) (piece rest whole : List ℕ)
-    → WroteSome old now before at (piece ++ rest) whole → AppendsFront now new piece → AppendsFront old new whole
-wrote_front old now new before at piece rest whole w (n, h, a) =
+pub wrote_front : (old now new : SinkModel) (piece rest whole : List ℕ) → WroteSome old now (piece ++ rest) whole → GrewByFront now new piece
+    → GrewByFront old new whole
+wrote_front old now new piece rest whole w (n, h, a) =
     let front : take (length w.done + n) (w.done ++ (piece ++ rest)) ≡ w.done ++ take n piece =
     take-append-add w.done (piece ++ rest) n ∙ ap (λ (t : List ℕ). w.done ++ t) (take-append-le n piece rest (omega (arith, h))) in
     let size : length (w.done ++ (piece ++ rest)) ≡ length w.done + (length piece + length rest) =
     length-append w.done (piece ++ rest) ∙ ap (λ (m : ℕ). length w.done + m) (length-append piece rest) in (
       length w.done + n,
       subst (λ (t : List ℕ). length w.done + n < length t) w.split (omega (arith, size, h)),
-      subst (λ (t : List ℕ). Appends old new (take (length w.done + n) t)) w.split
-          (subst (Appends old new) (sym front) (Appends-trans old now new w.done (take n piece) w.grew a)),
+      subst (λ (t : List ℕ). Grew old new (take (length w.done + n) t)) w.split
+          (subst (Grew old new) (sym front) (grew_more old now new w.done (take n piece) w.grew a)),
     )
 
+-- the same text, of which all that is left is one piece
+as_piece : (old now : SinkModel) (rest whole : List ℕ) → WroteSome old now rest whole → WroteSome old now (rest ++ []) whole
+as_piece old now rest whole w = subst (λ (t : List ℕ). WroteSome old now t whole) (sym (append-nil rest)) w
+
+-- a piece that cannot be made, of which nothing was written
+pub no_piece : (old : SinkModel) (piece : List ℕ) → 0 < length piece → GrewByFront old old piece
+no_piece old piece h = (0, h, grew_none old)
+
 -- where the next piece cannot be made, a front of the whole was written
-pub wrote_no_more : (old now : Option (List ℕ)) (before at : ℕ) (rest whole : List ℕ)
-    → WroteSome old now before at rest whole → 0 < length rest → AppendsFront old now whole
-wrote_no_more old now before at rest whole w h =
-    wrote_front old now now before at rest [] whole
-    (record { done = w.done; grew = w.grew; split = ap (λ (t : List ℕ). w.done ++ t) (append-nil rest) ∙ w.split; count = w.count })
-    (0, h, appends_none now)
+pub wrote_no_more : (old now : SinkModel) (rest whole : List ℕ) → WroteSome old now rest whole → 0 < length rest → GrewByFront old now whole
+wrote_no_more old now rest whole w h = wrote_front old now now rest [] whole (as_piece old now rest whole w) (no_piece now rest h)
 
 -- what stopped the writing of the next piece stopped that of the whole
-pub wrote_stop : (old now new : Option (List ℕ)) (before at after : ℕ) (piece rest whole : List ℕ) (stop : WriteStop)
-    → WroteSome old now before at (piece ++ rest) whole → WriteAll {T = Unit {0}} now new at after piece (Err stop)
-    → WriteAll {T = Unit {0}} old new before after whole (Err stop)
-wrote_stop old now new before at after piece rest whole write.Failed w (front, rose) =
-    (wrote_front old now new before at piece rest whole w front, Rose-before before at after w.count rose)
-wrote_stop old now new before at after piece rest whole write.NoMemory w front =
-    wrote_front old now new before at piece rest whole w front
+pub wrote_stop : (old now new : SinkModel) (piece rest whole : List ℕ) (stop : WriteStop) → WroteSome old now (piece ++ rest) whole
+    → WriteAll {T = Unit {0}} now new piece (Err stop) → WriteAll {T = Unit {0}} old new whole (Err stop)
+wrote_stop old now new piece rest whole write.Failed w (front, rose) =
+    (wrote_front old now new piece rest whole w front, Rose-before old.faults now.faults new.faults w.grew.1 rose)
+wrote_stop old now new piece rest whole write.NoMemory w front = wrote_front old now new piece rest whole w front
 
 -- what became of the writing of all the rest became of that of the whole
-pub wrote_rest : (old now new : Option (List ℕ)) (before at after : ℕ) (rest whole : List ℕ) (result : Result (Unit {0}) WriteStop)
-    → WroteSome old now before at rest whole → WriteAll now new at after rest result → WriteAll old new before after whole result
-wrote_rest old now new before at after rest whole (Ok value) w a =
-    subst (Appends old new) w.split (Appends-trans old now new w.done rest w.grew a)
-wrote_rest old now new before at after rest whole (Err stop) w a =
-    wrote_stop old now new before at after rest [] whole stop
-    (record { done = w.done; grew = w.grew; split = ap (λ (t : List ℕ). w.done ++ t) (append-nil rest) ∙ w.split; count = w.count }) a
+pub wrote_rest : (old now new : SinkModel) (rest whole : List ℕ) (result : Result (Unit {0}) WriteStop) → WroteSome old now rest whole
+    → WriteAll now new rest result → WriteAll old new whole result
+wrote_rest old now new rest whole (Ok value) w a = subst (Grew old new) w.split (grew_more old now new w.done rest w.grew a)
+wrote_rest old now new rest whole (Err stop) w a = wrote_stop old now new rest [] whole stop (as_piece old now rest whole w) a
 
-split_wrote : (kinds : List KindName) (regions : List Region) (events : List Event) (from to n : ℕ) (old now : Option (List ℕ)) (before at : ℕ)
-    → to ≡ from + n
-    → WroteSome old now before at (events_text kinds regions (drop from events)) (events_text kinds regions events)
-    → WroteSome old now before at (events_text kinds regions (take (to - from) (drop from events)) ++ events_text kinds regions (drop to events)) (events_text kinds regions events)
-split_wrote kinds regions events from to n old now before at e w =
+split_wrote : (kinds : List KindName) (regions : List Region) (events : List Event) (from to n : ℕ) (old now : SinkModel) → to ≡ from + n
+    → WroteSome old now (events_text kinds regions (drop from events)) (events_text kinds regions events)
+    → WroteSome old now (events_text kinds regions (take (to - from) (drop from events)) ++ events_text kinds regions (drop to events)) (events_text kinds regions events)
+split_wrote kinds regions events from to n old now e w =
     let size : from + (to - from) ≡ to = omega (arith, e) in
     let split : events_text kinds regions (drop from events) ≡ events_text kinds regions (take (to - from) (drop from events)) ++ events_text kinds regions (drop to events) =
     events_split kinds regions events from (to - from)
     ∙ ap (λ (k : ℕ). events_text kinds regions (take (to - from) (drop from events)) ++ events_text kinds regions (drop k events)) size in
-    subst (λ (t : List ℕ). WroteSome old now before at t (events_text kinds regions events)) split w
+    subst (λ (t : List ℕ). WroteSome old now t (events_text kinds regions events)) split w
 
 -- the next piece of some events, of which those before `from` were written
-pub wrote_piece : (kinds : List KindName) (regions : List Region) (events : List Event) (from to n : ℕ) (old now new : Option (List ℕ)) (before at after : ℕ)
-    → to ≡ from + n
-    → WroteSome old now before at (events_text kinds regions (drop from events)) (events_text kinds regions events)
-    → Appends now new (events_text kinds regions (take (to - from) (drop from events))) → at ≤ after
-    → WroteSome old new before after (events_text kinds regions (drop to events)) (events_text kinds regions events)
-wrote_piece kinds regions events from to n old now new before at after e w a h =
-    wrote_next old now new before at after (events_text kinds regions (take (to - from) (drop from events))) (events_text kinds regions (drop to events))
-    (events_text kinds regions events) (split_wrote kinds regions events from to n old now before at e w) a h
+pub wrote_piece : (kinds : List KindName) (regions : List Region) (events : List Event) (from to n : ℕ) (old now new : SinkModel) → to ≡ from + n
+    → WroteSome old now (events_text kinds regions (drop from events)) (events_text kinds regions events)
+    → Grew now new (events_text kinds regions (take (to - from) (drop from events)))
+    → WroteSome old new (events_text kinds regions (drop to events)) (events_text kinds regions events)
+wrote_piece kinds regions events from to n old now new e w a =
+    wrote_next old now new (events_text kinds regions (take (to - from) (drop from events))) (events_text kinds regions (drop to events))
+    (events_text kinds regions events) (split_wrote kinds regions events from to n old now e w) a
 
 -- a piece that stopped
-pub wrote_piece_stop : (kinds : List KindName) (regions : List Region) (events : List Event) (from to n : ℕ) (old now new : Option (List ℕ)) (before at after : ℕ)
-    (stop : WriteStop) → to ≡ from + n
-    → WroteSome old now before at (events_text kinds regions (drop from events)) (events_text kinds regions events)
-    → WriteAll {T = Unit {0}} now new at after (events_text kinds regions (take (to - from) (drop from events))) (Err stop)
-    → WriteAll {T = Unit {0}} old new before after (events_text kinds regions events) (Err stop)
-wrote_piece_stop kinds regions events from to n old now new before at after stop e w a =
-    wrote_stop old now new before at after (events_text kinds regions (take (to - from) (drop from events))) (events_text kinds regions (drop to events))
-    (events_text kinds regions events) stop (split_wrote kinds regions events from to n old now before at e w) a
-
--- a piece that cannot be made, of which nothing was written
-pub no_piece : (old : Option (List ℕ)) (piece : List ℕ) → 0 < length piece → AppendsFront old old piece
-no_piece old piece h = (0, h, appends_none old)
+pub wrote_piece_stop : (kinds : List KindName) (regions : List Region) (events : List Event) (from to n : ℕ) (old now new : SinkModel) (stop : WriteStop)
+    → to ≡ from + n → WroteSome old now (events_text kinds regions (drop from events)) (events_text kinds regions events)
+    → WriteAll {T = Unit {0}} now new (events_text kinds regions (take (to - from) (drop from events))) (Err stop)
+    → WriteAll {T = Unit {0}} old new (events_text kinds regions events) (Err stop)
+wrote_piece_stop kinds regions events from to n old now new stop e w a =
+    wrote_stop old now new (events_text kinds regions (take (to - from) (drop from events))) (events_text kinds regions (drop to events))
+    (events_text kinds regions events) stop (split_wrote kinds regions events from to n old now e w) a
 
 -- an error that is handed on
 pub err_is : (result : Result (Unit {0}) WriteStop) (stop : WriteStop) → IsErr result × IsErrAnd result (λ it. it ≡ stop) → result ≡ Err stop
@@ -277,13 +273,12 @@ err_is (Ok value) stop (h, e) = absurd e
 err_is (Err it) stop (h, e) = ap Err e
 
 -- two texts, of which the first was written
-pub wrote_first : (old now : Option (List ℕ)) (before at : ℕ) (first second : List ℕ) → Appends old now first → before ≤ at
-    → WroteSome old now before at second (first ++ second)
-wrote_first old now before at first second a h = record { done = first; grew = a; split = refl; count = h }
+pub wrote_first : (old now : SinkModel) (first second : List ℕ) → Grew old now first → WroteSome old now second (first ++ second)
+wrote_first old now first second a = record { done = first; grew = a; split = refl }
 
 -- two texts, of which the first stopped
-pub first_stops : (old new : Option (List ℕ)) (before after : ℕ) (first second : List ℕ) (stop : WriteStop) (result : Result (Unit {0}) WriteStop)
-    → result ≡ Err stop → WriteAll {T = Unit {0}} old new before after first (Err stop) → WriteAll old new before after (first ++ second) result
-first_stops old new before after first second stop result e a =
-    subst (WriteAll {T = Unit {0}} old new before after (first ++ second)) (sym e)
-    (wrote_stop old old new before before after first second (first ++ second) stop (wrote_none old before (first ++ second)) a)
+pub first_stops : (old new : SinkModel) (first second : List ℕ) (stop : WriteStop) (result : Result (Unit {0}) WriteStop) → result ≡ Err stop
+    → WriteAll {T = Unit {0}} old new first (Err stop) → WriteAll old new (first ++ second) result
+first_stops old new first second stop result e a =
+    subst (WriteAll {T = Unit {0}} old new (first ++ second)) (sym e)
+    (wrote_stop old old new first second (first ++ second) stop (wrote_none old (first ++ second)) a)

@@ -9,7 +9,7 @@ use Rattle.cd_tree.specs.declared.document.Region.{Region}
 use Rattle.cd_tree.specs.declared.document.Document.{Document}
 use Rattle.cd_tree.specs.declared.kinds.KindName.{KindName}
 use Rattle.cd_tree.specs.declared.refusal.Refusal.TheVariants.{Overlap, Uncovered, NoTarget, Stale}
-use Rattle.cd_tree.specs.Outlines.{Outline}
+use Rattle.cd_tree.specs.TreeModel.{TreeModel}
 use Rattle.cd_tree.specs.declared.event.Kept.TheVariants.{Regen}
 use Rattle.cd_tree.specs.declared.event.Event.TheVariants.{Begin, Saved, Fell, Lapsed, Refilled, Reached, Halted, Found, Complete, Escalate}
 use Rattle.cd_report.specs.Texts.{report_text, region_line, kinds_text, refusal_line}
@@ -32,11 +32,11 @@ abbrev region : List ℕ → ℕ → Region
 region name length = record { name = name; length = length; pattern = Const 0 }
 
 -- one domain
-abbrev single : Outline
+abbrev single : TreeModel
 single = record { kinds = kinds; domains = domain (codes "root") None ∷ [] }
 
 -- a domain, a child of it, and a child of the child
-abbrev nested : Outline
+abbrev nested : TreeModel
 nested =
     record { kinds = kinds; domains = domain (codes "root") None ∷ domain (codes "b") (Some (id 0)) ∷ domain (codes "c") (Some (id 1)) ∷ [] }
 

@@ -9,7 +9,7 @@ use Rattle.cd_tree.specs.declared.event.Kept.TheVariants.{Copy, Refer, Regen}
 use Rattle.cd_tree.specs.declared.event.Event.{Event}
 use Rattle.cd_tree.specs.declared.event.Event.TheVariants.{Begin, Saved, Fell, Lapsed, Refilled, Reached, Halted, Found, Complete, Escalate}
 use Rattle.cd_tree.specs.declared.kinds.KindName.{KindName}
-use Rattle.cd_tree.specs.Outlines.{Outline}
+use Rattle.cd_tree.specs.TreeModel.{TreeModel}
 use Rattle.cd_report.specs.Texts.{line, kinds_text, place_text, report_text}
 
 -- how an entry was preserved
@@ -45,6 +45,6 @@ abbrev pub record_text : List KindName → List Region → List Event → List �
 record_text kinds regions events = line (codes "record") ++ flat_map (event_line kinds regions) events
 
 -- the text of a run: its report, and its record where that is asked for
-abbrev pub run_text : Bool → Outline → List Region → Words → List Event → List ℕ → Option Cause → List ℕ
+abbrev pub run_text : Bool → TreeModel → List Region → Words → List Event → List ℕ → Option Cause → List ℕ
 run_text with_record tree regions words events begins cause =
     report_text tree regions words begins cause ++ (if with_record then record_text tree.kinds regions events else [])

@@ -15,9 +15,9 @@ use Rattle.cd_tree.specs.declared.refusal.Which.TheVariants as which
 use Rattle.cd_tree.specs.declared.refusal.Refusal.{Refusal}
 use Rattle.cd_tree.specs.declared.refusal.Refusal.TheVariants.{TooLong, Line, UnknownRegion, OutsideRegion, NameTaken, Shape, Arithmetic, Limit, Overlap, Uncovered, NoTarget, Stale, UnknownPath, NoSuchItem, OutsideReach, Undetected}
 use Rattle.cd_tree.specs.KindSets.{has_kind}
-use Rattle.cd_tree.specs.Outlines.{Outline}
+use Rattle.cd_tree.specs.TreeModel.{TreeModel}
 use Rattle.cd_tree.specs.Paths.{path_text_of}
-use Rattle.cd_field.specs.Machine.{Machine, IsPresent}
+use Rattle.cd_field.specs.FieldModel.{FieldModel, IsPresent}
 
 -- a text with a line feed behind it
 abbrev pub line : List ℕ → List ℕ
@@ -44,7 +44,7 @@ end_text domains None = []
 end_text domains (Some id) = path_text_of domains id
 
 -- whether the run committed, or where and by which kinds it was exhausted
-abbrev pub outcome_line : Outline → Option Cause → List ℕ
+abbrev pub outcome_line : TreeModel → Option Cause → List ℕ
 outcome_line tree None = line (codes "committed")
 outcome_line tree (Some cause) =
     line (codes "exhausted " ++ end_text tree.domains (last_or None cause.path) ++ codes " " ++ kinds_text tree.kinds cause.kinds)
@@ -93,16 +93,16 @@ abbrev pub total_line : List ℕ → List ℕ
 total_line begins = line (codes "total " ++ decimal (sum begins))
 
 -- the report of a run, without its record
-abbrev pub report_text : Outline → List Region → Words → List ℕ → Option Cause → List ℕ
+abbrev pub report_text : TreeModel → List Region → Words → List ℕ → Option Cause → List ℕ
 report_text tree regions words begins cause =
     outcome_line tree cause ++ region_lines words 0 regions ++ begins_lines tree.domains 0 begins ++ total_line begins
 
 -- what the reading gives: what becomes of the run, and how often each domain begins
-abbrev pub reading_text : Outline → List ℕ → Option Cause → List ℕ
+abbrev pub reading_text : TreeModel → List ℕ → Option Cause → List ℕ
 reading_text tree begins cause = outcome_line tree cause ++ begins_lines tree.domains 0 begins ++ total_line begins
 
 -- each place of each region is present in the machine
-abbrev pub AllPresent : Machine → List Region → Type 0
+abbrev pub AllPresent : FieldModel → List Region → Type 0
 AllPresent m regions =
     (k i : ℕ) (region : Region) → slice_get regions k ≡ Some region → i < region.length
     → IsPresent m (record { region = k; index = i })

@@ -1,6 +1,6 @@
-ghost use Rattle.std.specs.Prelude.{◌≡◌, ◌<◌, ◌≤◌, ◌^◌, length, IfOk, string_bytes};
+ghost use Rattle.std.specs.Prelude.{◌≡◌, ◌<◌, ◌^◌, length, IfOk, string_bytes};
 ghost use Rattle.cd_base.specs.Ends.{WriteAll};
-ghost use Rattle.cd_tree.specs.Outlines.{IsTree};
+ghost use Rattle.cd_tree.specs.TreeModel.{IsTree};
 ghost use Rattle.cd_report.specs.Texts.{accepted_line, item_count, entry_count, word_count};
 
 use cd_base::{Sink, WriteStop, write_all};
@@ -14,8 +14,7 @@ pub fn write_accepted<K: Sink>(
     need: u32,
     sink: &mut K,
 ) -> Result<(), WriteStop>
-    ensures meets { WriteAll (K.holds sink.old) (K.holds sink.new) (K.faults sink.old) (K.faults sink.new) (accepted_line document.now need) result }
-    ensures count { K.faults sink.old ≤ K.faults sink.new }
+    ensures { WriteAll (K.model sink.old) (K.model sink.new) (accepted_line document.now need) result }
 {
     match accepted_line(alloc, document, need) {
         Ok(line) => write_all(sink, line.as_bytes()),

@@ -1,4 +1,3 @@
-ghost use Rattle.std.specs.Prelude.{◌≤◌};
 ghost use Rattle.cd_base.specs.Ends.{WriteAll};
 ghost use Rattle.cd_report.specs.Texts.{usage_line, fault_line, not_built_line};
 
@@ -12,24 +11,21 @@ const NOT_BUILT: &str = "not built yet\n";
 
 /// Writes how the program is called. It takes no memory of its own.
 pub fn write_usage<K: Sink>(sink: &mut K) -> Result<(), WriteStop>
-    ensures meets { WriteAll (K.holds sink.old) (K.holds sink.new) (K.faults sink.old) (K.faults sink.new) usage_line result }
-    ensures count { K.faults sink.old ≤ K.faults sink.new }
+    ensures { WriteAll (K.model sink.old) (K.model sink.new) usage_line result }
 {
     write_all(sink, USAGE.as_bytes())
 }
 
 /// Writes that the source could not be read. It takes no memory of its own.
 pub fn write_read_fault<K: Sink>(sink: &mut K) -> Result<(), WriteStop>
-    ensures meets { WriteAll (K.holds sink.old) (K.holds sink.new) (K.faults sink.old) (K.faults sink.new) fault_line result }
-    ensures count { K.faults sink.old ≤ K.faults sink.new }
+    ensures { WriteAll (K.model sink.old) (K.model sink.new) fault_line result }
 {
     write_all(sink, READ_FAULT.as_bytes())
 }
 
 /// Writes that what is asked for is not there yet. It takes no memory of its own.
 pub fn write_not_built<K: Sink>(sink: &mut K) -> Result<(), WriteStop>
-    ensures meets { WriteAll (K.holds sink.old) (K.holds sink.new) (K.faults sink.old) (K.faults sink.new) not_built_line result }
-    ensures count { K.faults sink.old ≤ K.faults sink.new }
+    ensures { WriteAll (K.model sink.old) (K.model sink.new) not_built_line result }
 {
     write_all(sink, NOT_BUILT.as_bytes())
 }

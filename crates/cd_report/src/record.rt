@@ -23,8 +23,7 @@ pub fn write_record<F: Field, K: Sink>(
     sink: &mut K,
 ) -> Result<(), WriteStop>
     requires { length kinds.now ≤ 16 }
-    ensures meets { WriteAll (K.holds sink.old) (K.holds sink.new) (K.faults sink.old) (K.faults sink.new) (record_text kinds.now regions.now (F.state machine.now).events) result }
-    ensures count { K.faults sink.old ≤ K.faults sink.new }
+    ensures { WriteAll (K.model sink.old) (K.model sink.new) (record_text kinds.now regions.now (F.model machine.now).events) result }
 {
     write_all(sink, HEAD.as_bytes())?;
     write_events(alloc, kinds, regions, machine, sink)
@@ -40,8 +39,7 @@ fn write_events<F: Field, K: Sink>(
     sink: &mut K,
 ) -> Result<(), WriteStop>
     requires { length kinds.now ≤ 16 }
-    ensures meets { WriteAll (K.holds sink.old) (K.holds sink.new) (K.faults sink.old) (K.faults sink.new) (events_text kinds.now regions.now (F.state machine.now).events) result }
-    ensures count { K.faults sink.old ≤ K.faults sink.new }
+    ensures { WriteAll (K.model sink.old) (K.model sink.new) (events_text kinds.now regions.now (F.model machine.now).events) result }
 {
     let mut from = 0u64;
     while machine.event(from).is_some() {
@@ -66,9 +64,8 @@ fn write_piece<F: Field, K: Sink>(
 ) -> Result<(), WriteStop>
     requires kinds { length kinds.now ≤ 16 }
     requires order { from < to }
-    requires some { from < length (F.state machine.now).events }
-    ensures meets { WriteAll (K.holds sink.old) (K.holds sink.new) (K.faults sink.old) (K.faults sink.new) (events_text kinds.now regions.now (take (to - from) (drop from (F.state machine.now).events))) result }
-    ensures count { K.faults sink.old ≤ K.faults sink.new }
+    requires some { from < length (F.model machine.now).events }
+    ensures { WriteAll (K.model sink.old) (K.model sink.new) (events_text kinds.now regions.now (take (to - from) (drop from (F.model machine.now).events))) result }
 {
     match events_between(alloc, kinds, regions, machine, from, to) {
         Ok(text) => write_all(sink, text.as_bytes()),
@@ -87,7 +84,7 @@ fn events_between<F: Field>(
 ) -> Result<String, AllocError>
     requires kinds { length kinds.now ≤ 16 }
     requires order { from ≤ to }
-    ensures { IfOk result (λ text. string_bytes text ≡ events_text kinds.now regions.now (take (to - from) (drop from (F.state machine.now).events))) }
+    ensures { IfOk result (λ text. string_bytes text ≡ events_text kinds.now regions.now (take (to - from) (drop from (F.model machine.now).events))) }
 {
     let mut text = String::new(alloc);
     for k in from..to {

@@ -1,4 +1,4 @@
-ghost use Rattle.std.specs.Prelude.{◌≡◌, ◌≤◌, IfOk, string_bytes};
+ghost use Rattle.std.specs.Prelude.{◌≡◌, IfOk, string_bytes};
 ghost use Rattle.std.specs.Option.{option_copied};
 ghost use Rattle.cd_base.specs.Ends.{WriteAll};
 ghost use Rattle.cd_report.specs.Texts.{refusal_text, refusal_line, path_in, place_in, which_text};
@@ -16,8 +16,7 @@ pub fn write_refusal<K: Sink>(
     refusal: &Refusal,
     sink: &mut K,
 ) -> Result<(), WriteStop>
-    ensures meets { WriteAll (K.holds sink.old) (K.holds sink.new) (K.faults sink.old) (K.faults sink.new) (refusal_line (option_copied document.entry) refusal.now) result }
-    ensures count { K.faults sink.old ≤ K.faults sink.new }
+    ensures { WriteAll (K.model sink.old) (K.model sink.new) (refusal_line (option_copied document.entry) refusal.now) result }
 {
     match refusal_line(alloc, document, refusal) {
         Ok(line) => write_all(sink, line.as_bytes()),

@@ -1,6 +1,6 @@
 ghost use Rattle.std.specs.Prelude.{◌≡◌, ℕ, ◌<◌, ◌^◌, ◌++◌, length, sum, OnOk, string_bytes};
 ghost use Rattle.cd_base.specs.Words.{word_at, word_of};
-ghost use Rattle.cd_field.specs.Machine.{IsPresent};
+ghost use Rattle.cd_field.specs.FieldModel.{IsPresent};
 ghost use Rattle.cd_report.specs.Texts.{region_line, region_lines, words_text, words_from, listed, weighted, AllPresent};
 
 use cd_base::Place;
@@ -16,8 +16,8 @@ pub fn add_regions<F: Field>(
     text: &mut String,
 ) -> Result<(), AllocError>
     requires few { length regions.now < 2 ^ 32 }
-    requires present { AllPresent (F.state machine.now) regions.now }
-    ensures { OnOk result (string_bytes text.new ≡ string_bytes text.old ++ region_lines (F.state machine.now).words 0 regions.now) }
+    requires present { AllPresent (F.model machine.now) regions.now }
+    ensures { OnOk result (string_bytes text.new ≡ string_bytes text.old ++ region_lines (F.model machine.now).words 0 regions.now) }
 {
     for (number, region) in regions.iter().enumerate() {
         add_region(alloc, region, number as u32, machine, text)?;
@@ -33,8 +33,8 @@ fn add_region<F: Field>(
     machine: &F,
     text: &mut String,
 ) -> Result<(), AllocError>
-    requires { (i : ℕ) → i < region.now.length → IsPresent (F.state machine.now) (record { region = number; index = i }) }
-    ensures { OnOk result (string_bytes text.new ≡ string_bytes text.old ++ region_line (F.state machine.now).words number region.now) }
+    requires { (i : ℕ) → i < region.now.length → IsPresent (F.model machine.now) (record { region = number; index = i }) }
+    ensures { OnOk result (string_bytes text.new ≡ string_bytes text.old ++ region_line (F.model machine.now).words number region.now) }
 {
     text.push_str("region ")?;
     text.push_str(region.name.as_str())?;
@@ -50,8 +50,8 @@ fn add_words_or_sums<F: Field>(
     length: u32,
     text: &mut String,
 ) -> Result<(), AllocError>
-    requires { (i : ℕ) → i < length → IsPresent (F.state machine.now) (record { region = region; index = i }) }
-    ensures { OnOk result (string_bytes text.new ≡ string_bytes text.old ++ words_text length (words_from (F.state machine.now).words region 0 length)) }
+    requires { (i : ℕ) → i < length → IsPresent (F.model machine.now) (record { region = region; index = i }) }
+    ensures { OnOk result (string_bytes text.new ≡ string_bytes text.old ++ words_text length (words_from (F.model machine.now).words region 0 length)) }
 {
     if length <= 16 {
         return add_words(alloc, machine, region, length, text);
@@ -69,8 +69,8 @@ fn add_words<F: Field>(
     length: u32,
     text: &mut String,
 ) -> Result<(), AllocError>
-    requires { (i : ℕ) → i < length → IsPresent (F.state machine.now) (record { region = region; index = i }) }
-    ensures { OnOk result (string_bytes text.new ≡ string_bytes text.old ++ listed (words_from (F.state machine.now).words region 0 length)) }
+    requires { (i : ℕ) → i < length → IsPresent (F.model machine.now) (record { region = region; index = i }) }
+    ensures { OnOk result (string_bytes text.new ≡ string_bytes text.old ++ listed (words_from (F.model machine.now).words region 0 length)) }
 {
     for index in 0..length {
         let word = word(machine, region, index);
@@ -81,8 +81,8 @@ fn add_words<F: Field>(
 
 /// The sum of a region's words, modulo 2^64. It takes no memory.
 fn sum_of<F: Field>(machine: &F, region: u32, length: u32) -> u64
-    requires { (i : ℕ) → i < length → IsPresent (F.state machine.now) (record { region = region; index = i }) }
-    ensures { result ≡ word_of (sum (words_from (F.state machine.now).words region 0 length)) }
+    requires { (i : ℕ) → i < length → IsPresent (F.model machine.now) (record { region = region; index = i }) }
+    ensures { result ≡ word_of (sum (words_from (F.model machine.now).words region 0 length)) }
 {
     let mut sum = 0u64;
     for index in 0..length {
@@ -93,8 +93,8 @@ fn sum_of<F: Field>(machine: &F, region: u32, length: u32) -> u64
 
 /// The sum of a region's words, each times its place from 1 on, modulo 2^64. It takes no memory.
 fn weighted_sum_of<F: Field>(machine: &F, region: u32, length: u32) -> u64
-    requires { (i : ℕ) → i < length → IsPresent (F.state machine.now) (record { region = region; index = i }) }
-    ensures { result ≡ word_of (weighted 1 (words_from (F.state machine.now).words region 0 length)) }
+    requires { (i : ℕ) → i < length → IsPresent (F.model machine.now) (record { region = region; index = i }) }
+    ensures { result ≡ word_of (weighted 1 (words_from (F.model machine.now).words region 0 length)) }
 {
     let mut sum = 0u64;
     for index in 0..length {
@@ -106,8 +106,8 @@ fn weighted_sum_of<F: Field>(machine: &F, region: u32, length: u32) -> u64
 
 /// One word of a region. It takes no memory.
 fn word<F: Field>(machine: &F, region: u32, index: u32) -> u64
-    requires { IsPresent (F.state machine.now) (record { region = region; index = index }) }
-    ensures { result ≡ word_at (F.state machine.now).words (record { region = region; index = index }) }
+    requires { IsPresent (F.model machine.now) (record { region = region; index = index }) }
+    ensures { result ≡ word_at (F.model machine.now).words (record { region = region; index = index }) }
 {
     machine.read(Place { region, index })
 }

@@ -1,4 +1,4 @@
-ghost use Rattle.std.specs.Prelude.{◌≡◌, ◌<◌, ◌≤◌, ◌^◌, length, sum, IfOk, string_bytes};
+ghost use Rattle.std.specs.Prelude.{◌≡◌, ◌<◌, ◌^◌, length, sum, IfOk, string_bytes};
 ghost use Rattle.std.specs.Option.{option_copied};
 ghost use Rattle.cd_base.specs.Ends.{WriteAll};
 ghost use Rattle.cd_report.specs.Texts.{report_text, reading_text, AllPresent};
@@ -25,11 +25,10 @@ pub fn write_run<F: Field, K: Sink>(
     with_record: bool,
     sink: &mut K,
 ) -> Result<(), WriteStop>
-    requires present { AllPresent (F.state machine.now) regions.now }
+    requires present { AllPresent (F.model machine.now) regions.now }
     requires counts { length begins.now ≡ length tree.now.domains }
     requires total { sum begins.now < 2 ^ 64 }
-    ensures meets { WriteAll (K.holds sink.old) (K.holds sink.new) (K.faults sink.old) (K.faults sink.new) (run_text with_record tree.now regions.now (F.state machine.now).words (F.state machine.now).events begins.now (option_copied cause.entry)) result }
-    ensures count { K.faults sink.old ≤ K.faults sink.new }
+    ensures { WriteAll (K.model sink.old) (K.model sink.new) (run_text with_record tree.now regions.now (F.model machine.now).words (F.model machine.now).events begins.now (option_copied cause.entry)) result }
 {
     let Ok(text) = report(alloc, tree, regions, machine, begins, cause) else {
         return Err(WriteStop::NoMemory);
@@ -53,8 +52,7 @@ pub fn write_reading<K: Sink>(
 ) -> Result<(), WriteStop>
     requires counts { length begins.now ≡ length tree.now.domains }
     requires total { sum begins.now < 2 ^ 64 }
-    ensures meets { WriteAll (K.holds sink.old) (K.holds sink.new) (K.faults sink.old) (K.faults sink.new) (reading_text tree.now begins.now (option_copied cause.entry)) result }
-    ensures count { K.faults sink.old ≤ K.faults sink.new }
+    ensures { WriteAll (K.model sink.old) (K.model sink.new) (reading_text tree.now begins.now (option_copied cause.entry)) result }
 {
     match reading(alloc, tree, begins, cause) {
         Ok(text) => write_all(sink, text.as_bytes()),
@@ -71,10 +69,10 @@ fn report<F: Field>(
     begins: &Begins,
     cause: Option<&Cause>,
 ) -> Result<String, AllocError>
-    requires present { AllPresent (F.state machine.now) regions.now }
+    requires present { AllPresent (F.model machine.now) regions.now }
     requires counts { length begins.now ≡ length tree.now.domains }
     requires total { sum begins.now < 2 ^ 64 }
-    ensures { IfOk result (λ text. string_bytes text ≡ report_text tree.now regions.now (F.state machine.now).words begins.now (option_copied cause.entry)) }
+    ensures { IfOk result (λ text. string_bytes text ≡ report_text tree.now regions.now (F.model machine.now).words begins.now (option_copied cause.entry)) }
 {
     let count = tree.count();
     let mut text = String::new(alloc);

@@ -5,7 +5,7 @@ use Rattle.std.proofs.lemmas.Nat.Bits.{bit_at_or, bit_at-zero, same_from_bits}
 use Rattle.cd_tree.specs.declared.domain.NodeId.{NodeId}
 use Rattle.cd_tree.specs.declared.domain.Domain.{Domain}
 use Rattle.cd_tree.specs.KindSets.{no_kinds}
-use Rattle.cd_tree.specs.Outlines.{Outline, IsTree}
+use Rattle.cd_tree.specs.TreeModel.{TreeModel, IsTree}
 use Rattle.cd_tree.specs.Scripts.{path_of, declared_by, declared_for}
 use Rattle.cd_tree.specs.Laws.{PathsGoDown}
 
@@ -34,7 +34,7 @@ declared_last domains (first ∷ ids) id =
 abbrev pub declared_above : List Domain → Option NodeId → ℕ
 declared_above domains parent = declared_by domains (option_map_or (path_of domains) parent [])
 
-pub declared_step : PathsGoDown → (tree : Outline) → IsTree tree → (id : NodeId) (domain : Domain) → slice_get tree.domains id.0 ≡ Some domain
+pub declared_step : PathsGoDown → (tree : TreeModel) → IsTree tree → (id : NodeId) (domain : Domain) → slice_get tree.domains id.0 ≡ Some domain
     → declared_for tree.domains id ≡ bit_or (declared_above tree.domains domain.parent) domain.detects
 declared_step down tree is id domain there =
     ap (declared_by tree.domains) (down tree is id domain there)
@@ -42,7 +42,7 @@ declared_step down tree is id domain there =
     ∙ ap (λ (found : Option Domain). bit_or (declared_above tree.domains domain.parent) (option_map_or (λ (d : Domain). d.detects) found no_kinds)) there
 
 -- the root has its own kinds
-pub declared_root : PathsGoDown → (tree : Outline) → IsTree tree → (id : NodeId) (domain : Domain) → slice_get tree.domains id.0 ≡ Some domain
+pub declared_root : PathsGoDown → (tree : TreeModel) → IsTree tree → (id : NodeId) (domain : Domain) → slice_get tree.domains id.0 ≡ Some domain
     → domain.parent ≡ None → domain.detects ≡ declared_for tree.domains id
 declared_root down tree is id domain there up =
     sym (declared_step down tree is id domain there
@@ -50,7 +50,7 @@ declared_root down tree is id domain there up =
     ∙ none_or domain.detects)
 
 -- any other domain has its parent's and its own
-pub declared_child : PathsGoDown → (tree : Outline) → IsTree tree → (id : NodeId) (domain : Domain) → slice_get tree.domains id.0 ≡ Some domain
+pub declared_child : PathsGoDown → (tree : TreeModel) → IsTree tree → (id : NodeId) (domain : Domain) → slice_get tree.domains id.0 ≡ Some domain
     → (parent : NodeId) → domain.parent ≡ Some parent → (above : ℕ) → above ≡ declared_for tree.domains parent
     → bit_or above domain.detects ≡ declared_for tree.domains id
 declared_child down tree is id domain there parent up above same =

@@ -5,3 +5,4 @@ pub mod Declared
 pub mod Striking
 pub mod Progress
 pub mod OneAnswer
+pub mod ThereLemmas

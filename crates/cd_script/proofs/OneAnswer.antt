@@ -9,7 +9,7 @@ use Rattle.cd_tree.specs.declared.refusal.Refusal.{Refusal}
 use Rattle.cd_tree.specs.declared.refusal.Refusal.TheVariants.{UnknownPath, NoSuchItem, OutsideReach, Undetected}
 use Rattle.cd_tree.specs.KindSets.{has_kind}
 use Rattle.cd_tree.specs.Laws.{PathsDiffer}
-use Rattle.cd_tree.specs.Outlines.{Outline, IsTree}
+use Rattle.cd_tree.specs.TreeModel.{TreeModel, IsTree}
 use Rattle.cd_tree.specs.Paths.{IsNoPath}
 use Rattle.cd_tree.specs.Refusals.{FirstOf, numbered}
 use Rattle.cd_tree.specs.Scripts.{declared_for}
@@ -84,14 +84,14 @@ listed (domain ∷ domains) (suc k) below = listed domains k (omega arith)
 abbrev found_in : RawFault → NodeId → Fault
 found_in raw id = record { node = id; begin = raw.begin; item = raw.item; kind = raw.kind; place = raw.place; mask = raw.mask }
 
-same_domain : PathsDiffer → (tree : Outline) → IsTree tree → (path : List ℕ) (id other : NodeId)
+same_domain : PathsDiffer → (tree : TreeModel) → IsTree tree → (path : List ℕ) (id other : NodeId)
     → HasPath tree.domains path id → HasPath tree.domains path other → id ≡ other
 same_domain differ tree is path id other p q =
     let one = listed tree.domains id.0 p.0 in
     let two = listed tree.domains other.0 q.0 in
     differ tree is id other one.0 two.0 one.1 two.1 (p.1 ∙ sym q.1)
 
-agree : PathsDiffer → (tree : Outline) → IsTree tree → (at : ℕ) (raw : RawFault) (one other : Option Refusal)
+agree : PathsDiffer → (tree : TreeModel) → IsTree tree → (at : ℕ) (raw : RawFault) (one other : Option Refusal)
     → Comes tree.domains at raw one → Comes tree.domains at raw other → one ≡ other
 agree differ tree is at raw one other (inl p) (inl q) = p.1 ∙ sym q.1
 agree differ tree is at raw one other (inl p) (inr q) = absurd (p.0 q.0 q.1.0 q.1.1)
@@ -99,7 +99,7 @@ agree differ tree is at raw one other (inr p) (inl q) = absurd (q.0 p.0 p.1.0 p.
 agree differ tree is at raw one other (inr p) (inr q) =
     sym p.2 ∙ ap (answer_at tree.domains at raw) (same_domain differ tree is raw.path p.0 q.0 p.1 q.1) ∙ q.2
 
-one_answer : PathsDiffer → (tree : Outline) → IsTree tree → (fault : ℕ × RawFault) (one other : Option Refusal)
+one_answer : PathsDiffer → (tree : TreeModel) → IsTree tree → (fault : ℕ × RawFault) (one other : Option Refusal)
     → FaultOf tree.domains fault one → FaultOf tree.domains fault other → one ≡ other
 one_answer differ tree is (at, raw) one other p q =
     agree differ tree is at raw one other (comes tree.domains at raw one p) (comes tree.domains at raw other q)
@@ -119,18 +119,18 @@ first_is_one Says same (x ∷ xs) (Some r) (Some s) (inr p) (inl q) = absurd (le
 first_is_one Says same (x ∷ xs) (Some r) (Some s) (inr p) (inr q) = first_is_one Says same xs (Some r) (Some s) p.1 q.1
 
 -- two first refusals of a script, or a refusal and none, are the same
-pub first_fault_is_one : PathsDiffer → (tree : Outline) → IsTree tree → (faults : List RawFault) (one other : Option Refusal)
+pub first_fault_is_one : PathsDiffer → (tree : TreeModel) → IsTree tree → (faults : List RawFault) (one other : Option Refusal)
     → FirstFault tree.domains faults one → FirstFault tree.domains faults other → one ≡ other
 first_fault_is_one differ tree is faults one other p q =
     first_is_one (FaultOf tree.domains) (one_answer differ tree is) (numbered 1 faults) one other p q
 
-same_fault : PathsDiffer → (tree : Outline) → IsTree tree → (raw : RawFault) (one other : Fault)
+same_fault : PathsDiffer → (tree : TreeModel) → IsTree tree → (raw : RawFault) (one other : Fault)
     → IsFoundAs tree.domains raw one → IsFoundAs tree.domains raw other → one ≡ other
 same_fault differ tree is raw one other p q =
     p.1 ∙ ap (found_in raw) (same_domain differ tree is raw.path one.node other.node p.0 q.0) ∙ sym q.1
 
 -- two scripts that were found as the same faults are the same
-pub script_is_one : PathsDiffer → (tree : Outline) → IsTree tree → (raws : List RawFault) (one other : List Fault)
+pub script_is_one : PathsDiffer → (tree : TreeModel) → IsTree tree → (raws : List RawFault) (one other : List Fault)
     → AreFoundAs tree.domains raws one → AreFoundAs tree.domains raws other → one ≡ other
 script_is_one differ tree is [] [] [] p q = refl
 script_is_one differ tree is [] [] (fault ∷ faults) p q = absurd q

@@ -10,7 +10,7 @@ use Rattle.cd_tree.specs.declared.kinds.Kind.{Kind}
 use Rattle.cd_tree.specs.KindSets.{has_kind}
 use Rattle.cd_tree.specs.Domains.{Node, domain_of, node_of}
 use Rattle.cd_tree.specs.Meaning.{node_reach}
-use Rattle.cd_tree.specs.Outlines.{Outline}
+use Rattle.cd_tree.specs.TreeModel.{TreeModel}
 use Rattle.cd_tree.specs.Scripts.{declared_for, CanStrike}
 use Rattle.cd_script.specs.Acceptance.{last_point, reaches, IsFoundAs, HasKind}
 use Rattle.cd_script.proofs.Views.{items_in, items_seen}
@@ -36,7 +36,7 @@ can_strike domains id item p below inside =
     strikes_in (node_of domains id) item p (omega (arith, items_seen domains id)) inside
 
 -- and the other way round
-pub strikes_there : (tree : Outline) (fault : Fault) → CanStrike tree fault
+pub strikes_there : (tree : TreeModel) (fault : Fault) → CanStrike tree fault
     → (fault.item ≤ last_point tree.domains fault.node) × (reaches tree.domains fault.node fault.place ≡ true)
 strikes_there tree fault strikes =
     let both : (fault.item ≤ items_in (node_of tree.domains fault.node)) × (reach_in (node_of tree.domains fault.node) fault.place ≡ true) =
@@ -44,7 +44,7 @@ strikes_there tree fault strikes =
     (subst (λ (n : ℕ). fault.item ≤ n) (items_seen tree.domains fault.node) both.0, both.1)
 
 -- a fault that is found as it was read can strike
-pub found_strikes : (tree : Outline) (raw : RawFault) (fault : Fault) → IsFoundAs tree.domains raw fault → HasKind tree.domains raw fault.node
+pub found_strikes : (tree : TreeModel) (raw : RawFault) (fault : Fault) → IsFoundAs tree.domains raw fault → HasKind tree.domains raw fault.node
     → CanStrike tree fault
 found_strikes tree raw fault found has =
     let item : fault.item ≡ raw.item = ap (λ (f : Fault). f.item) found.1 in

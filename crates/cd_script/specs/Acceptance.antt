@@ -13,7 +13,7 @@ use Rattle.cd_tree.specs.declared.refusal.Refuse.TheVariants.{Refused, NoMemory}
 use Rattle.cd_tree.specs.KindSets.{has_kind}
 use Rattle.cd_tree.specs.Domains.{node_of}
 use Rattle.cd_tree.specs.Meaning.{node_reach}
-use Rattle.cd_tree.specs.Outlines.{Outline}
+use Rattle.cd_tree.specs.TreeModel.{TreeModel}
 use Rattle.cd_tree.specs.Paths.{path_text_of, IsNoPath}
 use Rattle.cd_tree.specs.Scripts.{declared_for, IsAccepted}
 use Rattle.cd_tree.specs.Refusals.{FirstOf, numbered}
@@ -76,7 +76,7 @@ FaultAnswers domains at raw (Err refusal) = FaultOf domains (at, raw) (Some refu
 
 -- what is said of a script: nothing in it is refused, and it is accepted as it was read; or the first refusal; nothing
 -- is said where memory ran out
-abbrev pub AcceptAnswers : Outline → List RawFault → Result (List Fault) Refuse → Type 0
+abbrev pub AcceptAnswers : TreeModel → List RawFault → Result (List Fault) Refuse → Type 0
 AcceptAnswers tree faults (Ok script) =
     FirstFault tree.domains faults None × AreFoundAs tree.domains faults script × IsAccepted tree script
 AcceptAnswers tree faults (Err (Refused refusal)) = FirstFault tree.domains faults (Some refusal)

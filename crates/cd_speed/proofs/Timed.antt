@@ -6,7 +6,7 @@ use Rattle.std.proofs.lemmas.Bool.Decides.{nat_tests}
 use Rattle.cd_base.specs.declared.place.Place.{Place}
 use Rattle.cd_base.specs.declared.place.Range.{Range}
 use Rattle.cd_base.specs.Words.{in_range, same_place}
-use Rattle.cd_field.specs.Machine.{Machine, IsPresent, ArePresent, wrote}
+use Rattle.cd_field.specs.FieldModel.{FieldModel, IsPresent, ArePresent, wrote}
 use Rattle.cd_speed.specs.Timed.{HasRegions, IsInside}
 
 -- a place of a range in the regions
@@ -19,7 +19,7 @@ place_inside r p inside h =
 by_test : {P : Type 0} (b : Bool) → (b ≡ true → P) → (b ≡ false → P) → P
 by_test {P} b when unless = elim (cases_Bool b) [ inl e ↦ when e | inr e ↦ unless e ]
 
-pub all_present : (m : Machine) (ranges : List Range) → HasRegions m → All IsInside ranges → ArePresent m ranges
+pub all_present : (m : FieldModel) (ranges : List Range) → HasRegions m → All IsInside ranges → ArePresent m ranges
 all_present m [] has inside p h = absurd (cc)
 all_present m (r ∷ ranges) has inside p h =
     by_test (in_range r p)
@@ -27,9 +27,9 @@ all_present m (r ∷ ranges) has inside p h =
     (λ f. all_present m ranges has (All-tail IsInside r ranges inside) p (rw f at h))
 
 -- a word changes, and each is there as before
-pub still_there : (m later : Machine) (at : Place) (word : ℕ) → later ≡ wrote m at word → HasRegions m → HasRegions later
+pub still_there : (m later : FieldModel) (at : Place) (word : ℕ) → later ≡ wrote m at word → HasRegions m → HasRegions later
 still_there m later at word is has =
-    let P : Machine → Type 0 = λ v. HasRegions v in
+    let P : FieldModel → Type 0 = λ v. HasRegions v in
     subst P (sym is) (record {
       each = λ p region index.
           let present : IsPresent m p = has.each p region index in

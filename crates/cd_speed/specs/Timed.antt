@@ -2,10 +2,10 @@
 use Rattle.std.specs.Prelude.{◌<◌, ◌≤◌}
 use Rattle.cd_base.specs.declared.place.Place.{Place}
 use Rattle.cd_base.specs.declared.place.Range.{Range}
-use Rattle.cd_field.specs.Machine.{Machine, IsPresent}
+use Rattle.cd_field.specs.FieldModel.{FieldModel, IsPresent}
 
 -- each word of the five regions is present
-pub record HasRegions (m : Machine) : Type 0 where
+pub record HasRegions (m : FieldModel) : Type 0 where
   pub each : (p : Place) → p.region < 5 → p.index < 330002 → IsPresent m p
 
 -- a range of one of the regions

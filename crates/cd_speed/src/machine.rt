@@ -22,14 +22,14 @@ pub(crate) fn sum_of_turns(alloc: Global, op: Op, turns: u32) -> Result<Option<u
 }
 
 fn load<F: Field>(alloc: Global, field: &mut F) -> Result<(), NoMemory>
-    ensures { OnOk result (HasRegions (F.state field.new)) }
+    ensures { OnOk result (HasRegions (F.model field.new)) }
 {
     field.load(&regions(alloc)?, &Items::new(alloc))?;
     Ok(())
 }
 
 fn sum_on<F: Field>(field: &mut F, op: &Op, turns: u32) -> u64
-    requires loaded { HasRegions (F.state field.old) }
+    requires loaded { HasRegions (F.model field.old) }
     requires full { All IsFull (op_writes op.now ∷ op_reads op.now) }
     requires shape { FitsShape op.now }
     requires inside { All IsInside (op_writes op.now ∷ op_reads op.now) }
@@ -42,11 +42,11 @@ fn sum_on<F: Field>(field: &mut F, op: &Op, turns: u32) -> u64
 }
 
 fn turn_on<F: Field>(field: &mut F, op: &Op, turn: u32) -> u64
-    requires loaded { HasRegions (F.state field.old) }
+    requires loaded { HasRegions (F.model field.old) }
     requires full { All IsFull (op_writes op.now ∷ op_reads op.now) }
     requires shape { FitsShape op.now }
     requires inside { All IsInside (op_writes op.now ∷ op_reads op.now) }
-    ensures { HasRegions (F.state field.new) }
+    ensures { HasRegions (F.model field.new) }
 {
     let index = turn % COUNT;
     field.write(Place { region: 1, index }, u64::from(turn));

@@ -1,10 +1,9 @@
 -- A run that came to its end left the words of the text's first region.
-use Rattle.std.proofs.Common.{◌≡◌, ℕ, Bool, true, false, List, [], ◌∷◌, ◌++◌, Option, Some, None, Result, slice_get, codes, refl, sym, ap, subst, ◌∙◌, inl, inr, append-nil}
+use Rattle.std.proofs.Common.{◌≡◌, ℕ, Bool, true, false, List, [], ◌∷◌, ◌++◌, Option, Some, None, Result, Ok, slice_get, codes, refl, sym, ap, subst, ◌∙◌, inl, inr, append-nil}
 use Rattle.std.specs.Io.KnownBytes.{Consumes, IsAtEnd}
+use Rattle.cd_base.specs.Ends.{SinkModel}
 use Rattle.cd_tree.specs.declared.document.Region.{Region}
 use Rattle.cd_tree.specs.declared.document.Document.{Document}
-use Rattle.cd_tree.specs.declared.document.Fault.{Fault}
-use Rattle.cd_tree.specs.declared.event.Cause.{Cause}
 use Rattle.cd_tree.specs.declared.refusal.Refusal.{Refusal}
 use Rattle.cd_tree.specs.Laws.{WordsStay}
 use Rattle.cd_parse.specs.Ranges.{region_in, range_in, place_in}
@@ -16,65 +15,71 @@ use Rattle.cd_words.specs.Blocks.{marked_lines}
 use Rattle.cd_words.specs.Sums.{atom, times, term, plus, expression}
 use Rattle.cd_words.specs.Names.{name, path}
 use Rattle.cd_words.specs.Kinds.{kind, kind_set, pattern}
-use Rattle.cd_field.specs.Machine.{Machine}
-use Rattle.cd_command.specs.declared.command.Command.{Command}
-use Rattle.cd_command.specs.declared.command.Command.TheVariants.{Check, Read, Lift, Run, Make}
-use Rattle.cd_command.specs.CommandLine.{command_in}
+use Rattle.cd_field.specs.FieldModel.{FieldModel}
 use Rattle.cd_app.specs.declared.status.Status.{Status}
 use Rattle.cd_app.specs.declared.status.Status.TheVariants.{Done, Exhausted, Usage, Refused, ReadFault, WriteFault, NoMemory, NotBuilt}
-use Rattle.cd_app.specs.Running.{Call, Written, Meets, Gives, Makes, Says, Runs, Accepts, TookAll, HoldsRun, IsRun, Whole, CutShort, status_of, said_of}
+use Rattle.cd_app.specs.Running.{HoldsRun}
+use Rattle.cd_app.specs.Deeds.{one_document, Accepted, Deed, runs, deed_in}
+use Rattle.cd_app.specs.Outcomes.{Input, whole, too_much, unread, Gave, AcceptsBytes, Outcome, refused, not_read, not_built, Runs, Judged, ComesOfInput, ComesOf, status_of}
+use Rattle.cd_app.specs.Calls.{Call, Leaves, Ends, by_text, by_line, standing, Meets}
 use Rattle.cd_app.proofs.RunLemmas.{regions_present}
-use Rattle.cd_tests.specs.Look.{regions_in, four_words, HasFourWords, HasFourWordsLeft, FourArePresent, comes_behind_a_run}
+use Rattle.cd_tests.specs.Look.{regions_in, four_words, HasFourWords, HasFourWordsLeft, FourArePresent, IsRun, comes_behind_a_run}
 
 -- what a call that came behind a run tells of it
 record HasRun (call : Call) : Type 0 where
-  document : Document
-  script : List Fault
-  accepts : Accepts call.had call.left document script
-  holds : HoldsRun document script call.now
+  input : Accepted
+  gave : Gave call.source_was call.source_now one_document.limit (whole input.bytes)
+  read : parse input.bytes ≡ Ok input.document
+  holds : HoldsRun input.document input.script call.machine_now
 
-ran : (call : Call) (writes : List ℕ → Type 0) (cause : Option Cause) → Runs call writes cause → HasRun call
-ran call writes cause runs =
-    record { document = runs.document; script = runs.script; accepts = runs.accepts; holds = runs.holds }
+-- an outcome that only a line tells of is not told by a text
+not_by_line : (outcome other : Outcome) → outcome ≡ other → standing (status_of other) ≡ by_line → standing (status_of outcome) ≡ by_text → ⊥
+not_by_line outcome other same line text =
+    let wrong : by_line ≡ by_text = sym line ∙ sym (ap (λ (o : Outcome). standing (status_of o)) same) ∙ text in cc
 
--- the words of a run do not make, and say nothing of a document alone
-makes_nothing : (call : Call) (writes : List ℕ → Type 0) (with_record : Bool) → IsRun call.words with_record → Makes call writes → ⊥
-makes_nothing call writes with_record run makes =
-    let same : Some (Run run.0 with_record) ≡ Some (Make makes.size) = sym run.1 ∙ makes.command in absurd cc
+-- what comes of an accepted input, and is told by a text, has run
+accepted_ran : (call : Call) (with_record : Bool) (input : Accepted) (outcome : Outcome)
+    → Gave call.source_was call.source_now one_document.limit (whole input.bytes) → AcceptsBytes one_document input → Runs with_record input outcome
+    → Leaves call outcome → standing (status_of outcome) ≡ by_text → HasRun call
+accepted_ran call with_record input outcome gave accepts (inl (built, is)) leaves text =
+    record { input = input; gave = gave; read = accepts.read; holds = subst (λ (o : Outcome). Leaves call o) is leaves }
+accepted_ran call with_record input outcome gave accepts (inr (unbuilt, is)) leaves text =
+    absurd (not_by_line outcome not_built is refl text)
 
-nothing_said : (workers : ℕ) (with_record : Bool) (command : Command) (document : Document) (script : List Fault) (said : List ℕ)
-    → Some (Run workers with_record) ≡ Some command → said_of command document script ≡ Some said → ⊥
-nothing_said workers with_record Check document script said same says = absurd cc
-nothing_said workers with_record Read document script said same says = absurd cc
-nothing_said workers with_record Lift document script said same says = absurd cc
-nothing_said workers with_record (Run more other) document script said same says = absurd cc
-nothing_said workers with_record (Make size) document script said same says = absurd cc
+whole_ran : (call : Call) (with_record : Bool) (bytes : List ℕ) (outcome : Outcome)
+    → Gave call.source_was call.source_now one_document.limit (whole bytes) → Judged one_document bytes (Runs with_record) outcome
+    → Leaves call outcome → standing (status_of outcome) ≡ by_text → HasRun call
+whole_ran call with_record bytes outcome gave (inl (document, refusal, refuses, is)) leaves text =
+    absurd (not_by_line outcome (refused document refusal) is refl text)
+whole_ran call with_record bytes outcome gave (inr (input, same, accepts, runs_on)) leaves text =
+    accepted_ran call with_record input outcome
+    (subst (λ (l : List ℕ). Gave call.source_was call.source_now one_document.limit (whole l)) (sym same) gave) accepts runs_on leaves text
 
-done_run : (call : Call) (writes : List ℕ → Type 0) (with_record : Bool) → IsRun call.words with_record → Gives call writes Done → HasRun call
-done_run call writes with_record run gives =
-    elim gives [
-      | inl makes ↦ absurd (makes_nothing call writes with_record run makes)
-      | inr other ↦ elim other [
-        | inl says ↦ absurd (nothing_said run.0 with_record says.command says.document says.script says.said (sym run.1 ∙ says.asked) says.says)
-        | inr runs ↦ ran call writes None runs
-      ]
-    ]
+input_ran : (call : Call) (with_record : Bool) (input : Input) (outcome : Outcome) → Gave call.source_was call.source_now one_document.limit input
+    → ComesOfInput one_document (Runs with_record) input outcome → Leaves call outcome → standing (status_of outcome) ≡ by_text
+    → HasRun call
+input_ran call with_record (whole bytes) outcome gave comes leaves text = whole_ran call with_record bytes outcome gave comes leaves text
+input_ran call with_record too_much outcome gave comes leaves text =
+    absurd (not_by_line outcome (refused None one_document.beyond) comes refl text)
+input_ran call with_record unread outcome gave comes leaves text = absurd (not_by_line outcome not_read comes refl text)
 
-gave : (call : Call) (writes : List ℕ → Type 0) (with_record : Bool) (cause : Option Cause) → IsRun call.words with_record
-    → Gives call writes (status_of cause) → HasRun call
-gave call writes with_record None run gives = done_run call writes with_record run gives
-gave call writes with_record (Some cause) run gives = ran call writes (Some cause) gives
+ran_by_text : (call : Call) (with_record : Bool) (outcome : Outcome) → IsRun call.words with_record → Ends call outcome
+    → standing (status_of outcome) ≡ by_text → HasRun call
+ran_by_text call with_record outcome run ends text =
+    let comes : ComesOf (Gave call.source_was call.source_now) (Some (runs one_document with_record)) outcome =
+    subst (λ (d : Option Deed). ComesOf (Gave call.source_was call.source_now) d outcome) run ends.0 in
+    input_ran call with_record comes.0 outcome comes.1 comes.2 ends.1 text
 
-has_run : (call : Call) (sink : Written) (with_record : Bool) (status : Status) → IsRun call.words with_record
-    → comes_behind_a_run status ≡ true → Meets call sink status → HasRun call
-has_run call sink with_record Done run e meets = done_run call (Whole sink) with_record run meets
-has_run call sink with_record (Exhausted cause) run e meets = ran call (Whole sink) (Some cause) meets
-has_run call sink with_record WriteFault run e meets = gave call (CutShort sink) with_record meets.0 run meets.1
-has_run call sink with_record Usage run e meets = absurd cc
-has_run call sink with_record (Refused refusal) run e meets = absurd cc
-has_run call sink with_record ReadFault run e meets = absurd cc
-has_run call sink with_record NoMemory run e meets = absurd cc
-has_run call sink with_record NotBuilt run e meets = absurd cc
+has_run : (call : Call) (old new : SinkModel) (with_record : Bool) (status : Status) → IsRun call.words with_record
+    → comes_behind_a_run status ≡ true → Meets call old new status → HasRun call
+has_run call old new with_record Done run e meets = ran_by_text call with_record meets.0 run meets.1 (ap standing meets.2)
+has_run call old new with_record (Exhausted cause) run e meets = ran_by_text call with_record meets.0 run meets.1 (ap standing meets.2)
+has_run call old new with_record WriteFault run e meets = ran_by_text call with_record meets.0 run meets.1 meets.2
+has_run call old new with_record Usage run e meets = absurd cc
+has_run call old new with_record (Refused refusal) run e meets = absurd cc
+has_run call old new with_record ReadFault run e meets = absurd cc
+has_run call old new with_record NoMemory run e meets = absurd cc
+has_run call old new with_record NotBuilt run e meets = absurd cc
 
 all_taken : (text bytes : List ℕ) (left : Option (List ℕ)) → Consumes (Some text) left bytes → IsAtEnd left → text ≡ bytes
 all_taken text bytes None c e = elim c [ ]
@@ -84,19 +89,19 @@ regions_left : (had left : Option (List ℕ)) (bytes : List ℕ) → Consumes ha
 regions_left None left bytes c e four = elim four [ ]
 regions_left (Some text) left bytes c e four = subst HasFourWords (all_taken text bytes left c e) four
 
-pub four_present : (law : WordsStay) (call : Call) (sink : Written) (with_record : Bool) (status : Status) → IsRun call.words with_record
-    → comes_behind_a_run status ≡ true → Meets call sink status → HasFourWordsLeft call.had → FourArePresent call.now
-four_present law call sink with_record status run e meets four =
-    let has : HasRun call = has_run call sink with_record status run e meets in
-    let took : TookAll call.had call.left has.accepts.bytes = has.accepts.took in
-    let here : HasFourWords has.accepts.bytes = regions_left call.had call.left has.accepts.bytes took.all took.end four in
-    let found : slice_get has.document.regions 0 ≡ Some four_words =
-    ap (λ (p : Result Document Refusal). slice_get (regions_in p) 0) (sym has.accepts.read) ∙ here in
-    record { each = λ i short. regions_present law has.document has.script call.now has.holds 0 i four_words found short }
+pub four_present : (law : WordsStay) (call : Call) (old new : SinkModel) (with_record : Bool) (status : Status) → IsRun call.words with_record
+    → comes_behind_a_run status ≡ true → Meets call old new status → HasFourWordsLeft call.source_was.left → FourArePresent call.machine_now
+four_present law call old new with_record status run e meets four =
+    let has : HasRun call = has_run call old new with_record status run e meets in
+    let here : HasFourWords has.input.bytes =
+    regions_left call.source_was.left call.source_now.left has.input.bytes has.gave.0.0 has.gave.1 four in
+    let found : slice_get has.input.document.regions 0 ≡ Some four_words =
+    ap (λ (p : Result Document Refusal). slice_get (regions_in p) 0) (sym has.read) ∙ here in
+    record { each = λ i short. regions_present law has.input.document has.input.script call.machine_now has.holds 0 i four_words found short }
 
 -- the word `run` alone gives a run without its record
 run_is_a_run : IsRun (codes "run" ∷ []) false
-run_is_a_run = (2, refl)
+run_is_a_run = refl
 
 pub one_word_runs : (had words : List (List ℕ)) (word : List ℕ) → had ≡ [] → word ≡ codes "run" → words ≡ had ++ word ∷ []
     → IsRun words false

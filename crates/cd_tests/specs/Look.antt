@@ -5,7 +5,8 @@ use Rattle.cd_tree.specs.declared.document.Region.{Region}
 use Rattle.cd_tree.specs.declared.document.Document.{Document}
 use Rattle.cd_tree.specs.declared.refusal.Refusal.{Refusal}
 use Rattle.cd_parse.specs.Reading.{parse}
-use Rattle.cd_field.specs.Machine.{Machine, IsPresent}
+use Rattle.cd_field.specs.FieldModel.{FieldModel, IsPresent}
+use Rattle.cd_app.specs.Deeds.{one_document, runs, deed_in}
 use Rattle.cd_app.specs.declared.status.Status.{Status}
 use Rattle.cd_app.specs.declared.status.Status.TheVariants.{Done, Exhausted, WriteFault}
 
@@ -28,8 +29,12 @@ HasFourWordsLeft None = ⊥
 HasFourWordsLeft (Some text) = HasFourWords text
 
 -- the first four words of the first region are in the machine
-pub record FourArePresent (m : Machine) : Type 0 where
+pub record FourArePresent (m : FieldModel) : Type 0 where
   pub each : (i : ℕ) → i < 4 → IsPresent m (record { region = 0; index = i })
+
+-- the words ask for a run, with its record or without
+abbrev pub IsRun : List (List ℕ) → Bool → Type 0
+IsRun words with_record = deed_in words ≡ Some (runs one_document with_record)
 
 -- these statuses come behind a run, where the words are a run's
 abbrev pub comes_behind_a_run : Status → Bool

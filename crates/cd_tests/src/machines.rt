@@ -1,7 +1,6 @@
 ghost use Rattle.std.specs.Prelude.{◌≡◌, ◌<◌, IsTrue, IfOk, false};
 ghost use Rattle.cd_field.specs.Maps.{machine_of};
-ghost use Rattle.cd_app.specs.Running.{IsRun};
-ghost use Rattle.cd_tests.specs.Look.{HasFourWords, HasFourWordsLeft, FourArePresent, comes_behind_a_run};
+ghost use Rattle.cd_tests.specs.Look.{HasFourWords, HasFourWordsLeft, FourArePresent, IsRun, comes_behind_a_run};
 
 use crate::calls::{EXHAUSTED, FILL, RECOVERED, call_joined};
 use cd_app::{Status, run_cd};
@@ -46,8 +45,8 @@ fn runs<S: Source, K: Sink, F: Field>(
     machine: &mut F,
 ) -> bool
     requires run { IsRun words.now false }
-    requires text { HasFourWordsLeft (S.left source.old) }
-    ensures { IsTrue result → FourArePresent (F.state machine.new) }
+    requires text { HasFourWordsLeft (S.model source.old).left }
+    ensures { IsTrue result → FourArePresent (F.model machine.new) }
 {
     laws::words_stay();
     let status = run_cd(alloc, words, source, sink, machine);

@@ -7,12 +7,12 @@ use Rattle.cd_base.specs.Words.{in_range}
 use Rattle.cd_tree.specs.Operations.{AreApart}
 
 -- a place that is in a range
-record Within (r : Range) (p : Place) : Type 0 where
-  region : r.region ≡ p.region
-  low : r.low ≤ p.index
-  high : p.index < r.high
+pub record Within (r : Range) (p : Place) : Type 0 where
+  pub region : r.region ≡ p.region
+  pub low : r.low ≤ p.index
+  pub high : p.index < r.high
 
-within : (r : Range) (p : Place) → in_range r p ≡ true → Within r p
+pub within : (r : Range) (p : Place) → in_range r p ≡ true → Within r p
 within r p is =
     let outer : (r.region == p.region ≡ true) × ((nat_le r.low p.index && nat_lt p.index r.high) ≡ true) =
     and_parts (r.region == p.region) (nat_le r.low p.index && nat_lt p.index r.high) is in
@@ -24,7 +24,7 @@ within r p is =
       high = ltb-true p.index r.high inner.1;
     }
 
-has_place : (r : Range) (p : Place) → r.region ≡ p.region → r.low ≤ p.index → p.index < r.high → in_range r p ≡ true
+pub has_place : (r : Range) (p : Place) → r.region ≡ p.region → r.low ≤ p.index → p.index < r.high → in_range r p ≡ true
 has_place r p region low high =
     and_from (r.region == p.region) (nat_le r.low p.index && nat_lt p.index r.high) (eq-eqb r.region p.region region)
     (and_from (nat_le r.low p.index) (nat_lt p.index r.high) (le-leb r.low p.index low) (lt-ltb p.index r.high high))

@@ -5,7 +5,8 @@ use Rattle.cd_tree.specs.declared.event.Event.TheVariants.{Begin}
 use Rattle.cd_tree.specs.KindSets.{no_kinds}
 use Rattle.cd_tree.specs.Domains.{Node, Body, Members, node, stop, run, group, no_more, member, node_numbers, body_numbers, member_numbers}
 use Rattle.cd_tree.specs.Reading.{Case, Counts, counted, Told, Blame, NodeEnd, GroupEnd, Try, detected, behind_group, read_node, read_points, read_members, read_try}
-use Rattle.cd_tree.proofs.Numbers.{copies, copies-append}
+use Rattle.cd_tree.specs.CountLaws.{copies}
+use Rattle.cd_tree.proofs.Numbers.{copies-append}
 use Rattle.cd_tree.proofs.BeginsParts.{Goes, Exits, Stops, Leaves, arrived_goes, detected_goes, behind_group_goes, begun_goes, tries_goes, with_member_goes}
 use Rattle.cd_tree.proofs.BeginsStates.{State, is_number, along, along_quiet, Lasts, other_begins, other_finds, other_completes, other_escalates}
 

@@ -6,7 +6,8 @@ use Rattle.cd_tree.specs.declared.event.Event.TheVariants.{Begin}
 use Rattle.cd_tree.specs.KindSets.{no_kinds}
 use Rattle.cd_tree.specs.Domains.{Node, Body, Members, node, stop, run, group, no_more, member, number_of, node_numbers, body_numbers, member_numbers}
 use Rattle.cd_tree.specs.Reading.{Case, Counts, counted, Told, Blame, TryEnd, Passed, Failed, Broken, NodeEnd, Done, Escalated, GroupEnd, AllDone, SomeEscalated, Try, detected, behind_group, ends_joined, read_node, read_points, read_members, read_try}
-use Rattle.cd_tree.proofs.Numbers.{copies, copies-append}
+use Rattle.cd_tree.specs.CountLaws.{copies}
+use Rattle.cd_tree.proofs.Numbers.{copies-append}
 use Rattle.cd_tree.proofs.BeginsParts.{Goes, Exits, Stops, Leaves, arrived_goes, detected_goes, behind_group_goes, begun_goes, tries_goes, with_member_goes}
 use Rattle.cd_tree.proofs.BeginsStates.{State, is_number, along, along_quiet, IsRight, IsFree, IsAlive, free_lasts, alive_lasts, free_alive, alive_right, other_begins, other_completes, member_escalates, own_begins, own_finds, completes_right, escalates_right}
 use Rattle.cd_tree.proofs.BeginsOthers.{Stays, not_here, points_keep, members_keep}

@@ -6,7 +6,8 @@ use Rattle.cd_tree.specs.declared.event.Event.TheVariants.{Begin}
 use Rattle.cd_tree.specs.KindSets.{no_kinds}
 use Rattle.cd_tree.specs.Domains.{Node, Body, Members, node, stop, run, group, no_more, member, number_of, node_numbers, body_numbers, member_numbers, Throughout, ThroughoutBody, ThroughoutMembers}
 use Rattle.cd_tree.specs.Reading.{Case, Counts, counted, Told, NodeEnd, GroupEnd, Try, detected, behind_group, read_node, read_points, read_members, read_try}
-use Rattle.cd_tree.proofs.Numbers.{copies, copies-append}
+use Rattle.cd_tree.specs.CountLaws.{copies}
+use Rattle.cd_tree.proofs.Numbers.{copies-append}
 use Rattle.cd_tree.proofs.BeginsParts.{Goes, Exits, Leaves, arrived_goes, detected_goes, behind_group_goes, begun_goes, tries_goes, with_member_goes}
 use Rattle.cd_tree.proofs.BeginsStates.{State, is_number, along, along_quiet, IsRight, IsFit, right_lasts, fit_lasts, fit_right, other_finds, fits_behind_begin, completes_right, escalates_right}
 use Rattle.cd_tree.proofs.BeginsOthers.{Stays, other_stops, node_keeps, points_keep, members_keep}

@@ -6,12 +6,13 @@ use Rattle.cd_tree.specs.declared.domain.Item.TheVariants.{Run, Group}
 use Rattle.cd_tree.specs.declared.domain.Domain.{Domain}
 use Rattle.cd_tree.specs.declared.document.Fault.{Fault}
 use Rattle.cd_tree.specs.Domains.{Node, Members, put_first, members_by, body_by, node_of, root_of, number_of, node_numbers, numbers_from}
-use Rattle.cd_tree.specs.Outlines.{Outline, IsTree, NamesChildren, FitsItems}
+use Rattle.cd_tree.specs.TreeModel.{TreeModel, IsTree, NamesChildren, FitsItems}
 use Rattle.cd_tree.specs.Reading.{no_begins}
 use Rattle.cd_tree.specs.Record.{case_of, record_of}
 use Rattle.cd_tree.specs.Begins.{HasParent}
 use Rattle.cd_tree.specs.Laws.{OfEach}
-use Rattle.cd_tree.proofs.Numbers.{copies, copies-at_most_one}
+use Rattle.cd_tree.specs.CountLaws.{copies}
+use Rattle.cd_tree.proofs.Numbers.{copies-at_most_one}
 use Rattle.cd_tree.proofs.View.{domain_fits}
 use Rattle.cd_tree.proofs.EachDomain.{from_each, number_there, Behind, behind_view}
 use Rattle.cd_tree.proofs.BeginsParts.{state_behind}
@@ -57,7 +58,7 @@ body_under domains id (Run op ∷ items) (full, shape, fits) = body_under domain
 body_under domains id (Group ids ∷ items) (some, few, named, fits) =
     (members_under domains id ids named, body_under domains id items fits)
 
-each_is_parent : (tree : Outline) → IsTree tree → OfEach tree (IsParent (parent_in tree.domains))
+each_is_parent : (tree : TreeModel) → IsTree tree → OfEach tree (IsParent (parent_in tree.domains))
 each_is_parent tree is id d found =
     let b : Behind tree.domains id d = behind_view tree is id d found in
     subst (IsParent (parent_in tree.domains)) (sym b.view)
@@ -67,7 +68,7 @@ fit_ready : (b : Bool) → IsFit b ready
 fit_ready true = tt
 fit_ready false = tt
 
-pub record_right : (tree : Outline) (faults : List Fault) → IsTree tree → (k : ℕ)
+pub record_right : (tree : TreeModel) (faults : List Fault) → IsTree tree → (k : ℕ)
     → IsRight (state_behind (along (parent_in tree.domains) k) ready (record_of tree faults))
 record_right tree faults is k =
     let up : ℕ → Option NodeId = parent_in tree.domains in

@@ -8,7 +8,7 @@ use Rattle.cd_tree.specs.declared.domain.Domain.{Domain}
 use Rattle.cd_tree.specs.declared.document.Fault.{Fault}
 use Rattle.cd_tree.specs.KindSets.{no_kinds, has_kind}
 use Rattle.cd_tree.specs.Domains.{Node, Body, Members, node, stop, run, group, no_more, member, put_first, members_by, body_by, node_of, root_of, domain_of, Throughout, ThroughoutBody, ThroughoutMembers}
-use Rattle.cd_tree.specs.Outlines.{Outline, IsTree, NamesChildren, FitsItems}
+use Rattle.cd_tree.specs.TreeModel.{TreeModel, IsTree, NamesChildren, FitsItems}
 use Rattle.cd_tree.specs.Scripts.{IsDetectable, DetectableBody, DetectableMembers, declared_for}
 use Rattle.cd_tree.proofs.View.{domain_fits, nested_view_follows}
 use Rattle.cd_tree.proofs.PathParents.{held}
@@ -103,7 +103,7 @@ first_joins declared above None rest joined more = more
 first_joins declared above (Some d) rest joined more = (joined d refl, more)
 
 -- a member of a domain: its path is the domain's, and then the member
-child_joins : (tree : Outline) → IsTree tree → (at id : NodeId)
+child_joins : (tree : TreeModel) → IsTree tree → (at id : NodeId)
     → IsSomeAnd (slice_get tree.domains id.0) (λ child. child.parent ≡ Some at)
     → (d : Node) → node_of tree.domains id ≡ Some d → IsJoined (declared_for tree.domains) (declared_for tree.domains at) d
 child_joins tree is at id child d found =
@@ -112,14 +112,14 @@ child_joins tree is at id child d found =
     (declared_down tree is id view.domain view.there (Some at)
     (held (λ child. child.parent ≡ Some at) (slice_get tree.domains id.0) view.domain view.there child))
 
-members_join : (tree : Outline) → IsTree tree → (at : NodeId) (ids : List NodeId) → NamesChildren tree.domains at.0 ids
+members_join : (tree : TreeModel) → IsTree tree → (at : NodeId) (ids : List NodeId) → NamesChildren tree.domains at.0 ids
     → MembersJoin (declared_for tree.domains) (declared_for tree.domains at) (members_by (node_of tree.domains) ids)
 members_join tree is at [] fits = tt
 members_join tree is at (id ∷ ids) (above, child, fits) =
     first_joins (declared_for tree.domains) (declared_for tree.domains at) (node_of tree.domains id)
     (members_by (node_of tree.domains) ids) (child_joins tree is at id child) (members_join tree is at ids fits)
 
-body_joins : (tree : Outline) → IsTree tree → (at : NodeId) (items : List Item) → FitsItems tree.domains at.0 items
+body_joins : (tree : TreeModel) → IsTree tree → (at : NodeId) (items : List Item) → FitsItems tree.domains at.0 items
     → BodyJoins (declared_for tree.domains) (declared_for tree.domains at) (body_by (node_of tree.domains) items)
 body_joins tree is at [] fits = tt
 body_joins tree is at (Run op ∷ items) (full, shape, fits) = body_joins tree is at items fits
@@ -127,7 +127,7 @@ body_joins tree is at (Group ids ∷ items) (some, few, named, fits) =
     (members_join tree is at ids named, body_joins tree is at items fits)
 
 -- the members of each domain of a program join on
-each_joins : (tree : Outline) → IsTree tree → (id : NodeId) (d : Node) → node_of tree.domains id ≡ Some d
+each_joins : (tree : TreeModel) → IsTree tree → (id : NodeId) (d : Node) → node_of tree.domains id ≡ Some d
     → Joins (declared_for tree.domains) d
 each_joins tree is id d found =
     let view : Behind tree.domains id d = behind_view tree is id d found in
@@ -135,7 +135,7 @@ each_joins tree is id d found =
     subst (Joins (declared_for tree.domains)) (sym view.view) (body_joins tree is id view.domain.items fits)
 
 -- nothing is declared above the root
-root_joins : (tree : Outline) → IsTree tree → IsJoined (declared_for tree.domains) no_kinds (root_of tree.domains)
+root_joins : (tree : TreeModel) → IsTree tree → IsJoined (declared_for tree.domains) no_kinds (root_of tree.domains)
 root_joins tree is =
     let first : NodeId = record { 0 = 0 } in
     let view : Behind tree.domains first (root_of tree.domains) =
@@ -145,14 +145,14 @@ root_joins tree is =
     (held (λ domain. domain.parent ≡ None) (slice_get tree.domains 0) view.domain view.there is.root))
 
 -- the kinds of the faults of domains that are there
-abbrev AllDeclared : Outline → List Fault → Type 0
+abbrev AllDeclared : TreeModel → List Fault → Type 0
 AllDeclared tree faults =
     All (λ (fault : Fault). fault.node.0 < length tree.domains → IsTrue (has_kind (declared_for tree.domains fault.node) fault.kind)) faults
 
 same_domain : (declared : NodeId → ℕ) (id other : NodeId) → id.0 ≡ other.0 → declared id ≡ declared other
 same_domain declared id other same = ap (λ (n : ℕ). declared (record { 0 = n })) same
 
-at_each : (tree : Outline) → IsTree tree → (faults : List Fault) → AllDeclared tree faults
+at_each : (tree : TreeModel) → IsTree tree → (faults : List Fault) → AllDeclared tree faults
     → (id : NodeId) (d : Node) → node_of tree.domains id ≡ Some d → DeclaredAt faults (declared_for tree.domains) d
 at_each tree is faults all id d found =
     let view : Behind tree.domains id d = behind_view tree is id d found in
@@ -164,14 +164,14 @@ at_each tree is faults all id d found =
     subst (λ (kinds : ℕ). IsTrue (has_kind kinds f.kind)) (same_domain (declared_for tree.domains) f.node id same)
     (all k fault below there))
 
-from_paths : (tree : Outline) → IsTree tree → (faults : List Fault) → AllDeclared tree faults
+from_paths : (tree : TreeModel) → IsTree tree → (faults : List Fault) → AllDeclared tree faults
     → IsDetectable faults no_kinds (root_of tree.domains)
 from_paths tree is faults all =
     node_detectable faults (declared_for tree.domains) no_kinds (root_of tree.domains) (root_joins tree is)
     (from_each tree is (Joins (declared_for tree.domains)) (each_joins tree is))
     (from_each tree is (DeclaredAt faults (declared_for tree.domains)) (at_each tree is faults all))
 
-to_paths : (tree : Outline) → IsTree tree → (faults : List Fault) → IsDetectable faults no_kinds (root_of tree.domains)
+to_paths : (tree : TreeModel) → IsTree tree → (faults : List Fault) → IsDetectable faults no_kinds (root_of tree.domains)
     → AllDeclared tree faults
 to_paths tree is faults detectable =
     let each : (id : NodeId) (d : Node) → node_of tree.domains id ≡ Some d → DeclaredAt faults (declared_for tree.domains) d =
@@ -186,6 +186,6 @@ to_paths tree is faults detectable =
     each id (node id here (body_by (node_of tree.domains) here.items)) (nested_view_follows tree is id here there)
     k fault below refl
 
-pub detectable_by_paths : (tree : Outline) (faults : List Fault) → IsTree tree
+pub detectable_by_paths : (tree : TreeModel) (faults : List Fault) → IsTree tree
     → AllDeclared tree faults ↔ IsDetectable faults no_kinds (root_of tree.domains)
 detectable_by_paths tree faults is = (from_paths tree is faults, to_paths tree is faults)

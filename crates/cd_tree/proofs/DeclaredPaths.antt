@@ -6,7 +6,7 @@ use Rattle.std.proofs.lemmas.Nat.Bits.{bit_at_or, same_from_bits}
 use Rattle.cd_tree.specs.declared.domain.NodeId.{NodeId}
 use Rattle.cd_tree.specs.declared.domain.Domain.{Domain}
 use Rattle.cd_tree.specs.KindSets.{no_kinds}
-use Rattle.cd_tree.specs.Outlines.{Outline, IsTree}
+use Rattle.cd_tree.specs.TreeModel.{TreeModel, IsTree}
 use Rattle.cd_tree.specs.Scripts.{path_under, paths_from, path_of, declared_by, declared_for}
 use Rattle.cd_tree.proofs.PathTexts.{path_step, earlier_parent}
 
@@ -16,7 +16,7 @@ under_is_path domains None = refl
 under_is_path domains (Some parent) = refl
 
 -- the path of a domain is its parent's, and then the domain
-pub paths_go_down : (tree : Outline) → IsTree tree → (id : NodeId) (domain : Domain) → slice_get tree.domains id.0 ≡ Some domain
+pub paths_go_down : (tree : TreeModel) → IsTree tree → (id : NodeId) (domain : Domain) → slice_get tree.domains id.0 ≡ Some domain
     → path_of tree.domains id ≡ option_map_or (path_of tree.domains) domain.parent [] ++ id ∷ []
 paths_go_down tree is id domain there =
     path_step tree.domains id domain there (earlier_parent tree is id domain there domain.parent refl)
@@ -44,7 +44,7 @@ declared_above domains None = refl
 declared_above domains (Some parent) = refl
 
 -- the kinds that are declared for a domain: those for its parent, and its own
-pub declared_down : (tree : Outline) → IsTree tree → (id : NodeId) (domain : Domain) → slice_get tree.domains id.0 ≡ Some domain
+pub declared_down : (tree : TreeModel) → IsTree tree → (id : NodeId) (domain : Domain) → slice_get tree.domains id.0 ≡ Some domain
     → (parent : Option NodeId) → domain.parent ≡ parent
     → declared_for tree.domains id ≡ bit_or (option_map_or (declared_for tree.domains) parent no_kinds) domain.detects
 declared_down tree is id domain there parent up =

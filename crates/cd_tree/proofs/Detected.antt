@@ -8,7 +8,7 @@ use Rattle.cd_tree.specs.declared.document.Fault.{Fault}
 use Rattle.cd_tree.specs.KindSets.{no_kinds, has_kind, kinds_without}
 use Rattle.cd_tree.specs.Scripts.{struck, kinds_of, IsDetectable, DetectableBody, DetectableMembers, IsAccepted}
 use Rattle.cd_tree.specs.Domains.{Node, Body, Members, node, stop, run, group, no_more, member, root_of}
-use Rattle.cd_tree.specs.Outlines.{Outline}
+use Rattle.cd_tree.specs.TreeModel.{TreeModel}
 use Rattle.cd_tree.specs.Reading.{Case, Counts, no_begins, Told, Blame, TryEnd, Passed, Failed, Broken, NodeEnd, Done, Escalated, GroupEnd, AllDone, SomeEscalated, Try, stopped, begun, halted, unless_halted, arrived, judged, detected, group_ended, behind_group, ends_joined, ended, unless_failed, tries, read_node, read_points, read_members}
 use Rattle.cd_tree.specs.Record.{case_of, reading}
 use Rattle.cd_tree.specs.Laws.{EndsClean}
@@ -151,5 +151,5 @@ pub found_at_roots : (w : Case) (d : Node) (counts : Counts) → IsDetectable w.
     → EndsClean (read_node w d counts).answer
 found_at_roots w d counts found = within_none_ends_clean (read_node w d counts).answer (node_within w no_kinds d counts found)
 
-pub found_in_programs : (tree : Outline) (faults : List Fault) → IsAccepted tree faults → EndsClean (reading tree faults).answer
+pub found_in_programs : (tree : TreeModel) (faults : List Fault) → IsAccepted tree faults → EndsClean (reading tree faults).answer
 found_in_programs tree faults accepted = found_at_roots (case_of tree faults) (root_of tree.domains) no_begins accepted.found

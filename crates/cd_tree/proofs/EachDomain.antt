@@ -6,7 +6,7 @@ use Rattle.cd_tree.specs.declared.domain.Item.{Item}
 use Rattle.cd_tree.specs.declared.domain.Item.TheVariants.{Run, Group}
 use Rattle.cd_tree.specs.declared.domain.Domain.{Domain}
 use Rattle.cd_tree.specs.Domains.{Node, Body, Members, node, stop, run, group, no_more, member, put_first, members_by, body_by, nodes_from, node_of, root_of, number_of, domain_of, node_numbers, body_numbers, member_numbers, numbers_from, Throughout, ThroughoutBody, ThroughoutMembers}
-use Rattle.cd_tree.specs.Outlines.{Outline, IsTree}
+use Rattle.cd_tree.specs.TreeModel.{TreeModel, IsTree}
 use Rattle.cd_tree.specs.Laws.{OfEach}
 use Rattle.cd_tree.proofs.Numbers.{Each, each_append, each_at}
 use Rattle.cd_tree.proofs.View.{nested_view_follows}
@@ -67,7 +67,7 @@ found_body P find (Run op ∷ items) finds = found_body P find items finds
 found_body P find (Group ids ∷ items) finds = (found_members P find ids finds, found_body P find items finds)
 
 -- a property of each view of a list holds from each of them down: what stands below a view is a later view
-views_throughout : (P : Node → Type 0) (at : ℕ) (domains : List Domain)
+pub views_throughout : (P : Node → Type 0) (at : ℕ) (domains : List Domain)
     → ((k : ℕ) (d : Node) → slice_get (nodes_from at domains) k ≡ Some d → P d)
     → (k : ℕ) (d : Node) → slice_get (nodes_from at domains) k ≡ Some d → Throughout P d
 views_throughout P at [] each k d is = absurd (cc)
@@ -89,7 +89,7 @@ root_there [] some = absurd (omega arith)
 root_there (domain ∷ domains) some = refl
 
 -- a property of each domain of a program holds from the root down
-pub from_each : (tree : Outline) → IsTree tree → (P : Node → Type 0) → OfEach tree P → Throughout P (root_of tree.domains)
+pub from_each : (tree : TreeModel) → IsTree tree → (P : Node → Type 0) → OfEach tree P → Throughout P (root_of tree.domains)
 from_each tree is P each =
     views_throughout P 0 tree.domains (λ k d found. each (record { 0 = k }) d found) 0 (root_of tree.domains)
     (root_there tree.domains is.some)
@@ -116,7 +116,7 @@ number_within domains id d found =
     omega (arith, as_many 0 domains)
 
 -- a property that holds from the root of a program down holds of each domain: the walk meets each number
-pub of_each : (tree : Outline) → IsTree tree → (P : Node → Type 0) → Throughout P (root_of tree.domains) → OfEach tree P
+pub of_each : (tree : TreeModel) → IsTree tree → (P : Node → Type 0) → Throughout P (root_of tree.domains) → OfEach tree P
 of_each tree is P below id d found =
     let views : List Node = nodes_from 0 tree.domains in
     let Here : Node → Type 0 = λ e. slice_get views (number_of e) ≡ Some e in
@@ -142,7 +142,7 @@ pub record Behind (domains : List Domain) (id : NodeId) (d : Node) : Type 0 wher
   pub there : slice_get domains id.0 ≡ Some domain
   pub view : d ≡ node id domain (body_by (node_of domains) domain.items)
 
-pub behind_view : (tree : Outline) → IsTree tree → (id : NodeId) (d : Node) → node_of tree.domains id ≡ Some d → Behind tree.domains id d
+pub behind_view : (tree : TreeModel) → IsTree tree → (id : NodeId) (d : Node) → node_of tree.domains id ≡ Some d → Behind tree.domains id d
 behind_view tree is id d found =
     let here : Domain = get_or tree.domains id.0 (domain_of d) in
     let is_here : slice_get tree.domains id.0 ≡ Some here =

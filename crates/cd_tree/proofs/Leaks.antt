@@ -11,7 +11,7 @@ use Rattle.cd_tree.specs.Domains.{Node, Body, Members, node, stop, run, group, n
 use Rattle.cd_tree.specs.Reading.{Case, Counts, Told, Blame, TryEnd, Passed, Failed, Broken, NodeEnd, Done, Escalated, GroupEnd, AllDone, SomeEscalated, Try, stopped, begun, halted, unless_halted, arrived, judged, detected, group_ended, behind_group, ends_joined, ended, unless_failed, tries, read_node, read_points, read_members}
 
 -- none of these kinds halts
-abbrev Quiet : ℕ → ℕ → Type 0
+abbrev pub Quiet : ℕ → ℕ → Type 0
 Quiet halts kinds = bit_and kinds halts ≡ no_kinds
 
 abbrev QuietTry : ℕ → TryEnd → Type 0
@@ -19,18 +19,18 @@ QuietTry halts (Passed leak) = Quiet halts leak
 QuietTry halts (Failed cause) = Unit {0}
 QuietTry halts (Broken cause over) = Unit {0}
 
-abbrev QuietNode : ℕ → NodeEnd → Type 0
+abbrev pub QuietNode : ℕ → NodeEnd → Type 0
 QuietNode halts (Done leak) = Quiet halts leak
 QuietNode halts (Escalated cause over) = Unit {0}
 
-abbrev QuietGroup : ℕ → GroupEnd → Type 0
+abbrev pub QuietGroup : ℕ → GroupEnd → Type 0
 QuietGroup halts (AllDone leaks) = Quiet halts leaks
 QuietGroup halts (SomeEscalated cause over) = Unit {0}
 
-none_is_quiet : (halts : ℕ) → Quiet halts no_kinds
+pub none_is_quiet : (halts : ℕ) → Quiet halts no_kinds
 none_is_quiet halts = same_from_bits _ _ (λ i. omega (arith, bit_at_and 0 halts i, bit_at-zero i))
 
-or_is_quiet : (halts a b : ℕ) → Quiet halts a → Quiet halts b → Quiet halts (bit_or a b)
+pub or_is_quiet : (halts a b : ℕ) → Quiet halts a → Quiet halts b → Quiet halts (bit_or a b)
 or_is_quiet halts a b p q =
     same_from_bits _ _ (λ i.
     let here : bit_at (bit_and a halts) i ≡ bit_at 0 i = ap (λ n. bit_at n i) p in
@@ -103,7 +103,7 @@ tries_quiet all (suc spare) id domain again t each quiet =
 mutual
   unfolding read_node
 
-  node_quiet : (w : Case) (d : Node) (counts : Counts) → QuietNode w.halts (read_node w d counts).answer
+  pub node_quiet : (w : Case) (d : Node) (counts : Counts) → QuietNode w.halts (read_node w d counts).answer
   node_quiet w (node id domain body) counts =
       tries_quiet w.halts (domain.retry - 1) id domain
       (λ now. begun id domain false now
@@ -129,7 +129,7 @@ mutual
       (λ all more. read_points w rest h (suc point) all more) still (members_quiet w members counts)
       (λ all quiet_all. points_quiet w rest h (suc point) all t.counts quiet_all))
 
-  members_quiet : (w : Case) (members : Members) (counts : Counts) → QuietGroup w.halts (read_members w members counts).answer
+  pub members_quiet : (w : Case) (members : Members) (counts : Counts) → QuietGroup w.halts (read_members w members counts).answer
   members_quiet w no_more counts = none_is_quiet w.halts
   members_quiet w (member first rest) counts =
       let t : Told NodeEnd = read_node w first counts in

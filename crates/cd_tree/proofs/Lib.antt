@@ -1,11 +1,13 @@
 mod WorkedForms
 mod Worked
+pub mod KindLemmas
 pub mod Potential
 pub mod RepeatsParts
 pub mod RepeatsReading
 pub mod Numbers
 pub mod CountsParts
 pub mod CountsReading
+pub mod CountsSmall
 mod WorkedGroups
 mod WorkedHalts
 mod WorkedWords
@@ -20,6 +22,13 @@ pub mod PathTexts
 pub mod PathEnds
 pub mod PathOnly
 pub mod Reach
+pub mod SameColumns
+pub mod SeesReads
+pub mod ShapesHold
+pub mod Absorbs
+pub mod FirstFacts
+pub mod OfMembers
+mod WorkedFirst
 mod WorkedLegal
 pub mod EachDomain
 pub mod Covers
@@ -39,3 +48,23 @@ pub mod BeginsReading
 pub mod BeginsTree
 pub mod BeginsSaid
 pub mod BeginsNumbers
+pub mod OtherParts
+pub mod OtherCounts
+pub mod FrontParts
+pub mod FrontSteps
+pub mod FrontsStand
+pub mod FrontsWait
+mod WorkedFronts
+pub mod EventsTold
+pub mod SavesDeclared
+pub mod LegalParts
+pub mod TellOwn
+pub mod Arrivals
+pub mod ArrivalsAll
+pub mod FrontCounts
+pub mod Slices
+pub mod Filled
+pub mod Named
+pub mod LastChild
+pub mod Places
+mod WorkedSlices

@@ -3,7 +3,7 @@ use Rattle.std.proofs.Common.{ℕ, ◌+◌, ◌≤◌, max, arith}
 use Rattle.std.specs.Prelude.{sum_by}
 use Rattle.cd_tree.specs.Domains.{Node, Body, Members, node, stop, run, group, no_more, member, root_of, Throughout, ThroughoutBody, ThroughoutMembers}
 use Rattle.cd_tree.specs.Meaning.{entry_need, node_need, body_need, members_need}
-use Rattle.cd_tree.specs.Outlines.{Outline, IsTree}
+use Rattle.cd_tree.specs.TreeModel.{TreeModel, IsTree}
 use Rattle.cd_tree.specs.Laws.{OfEach}
 use Rattle.cd_tree.proofs.EachDomain.{of_each}
 
@@ -26,7 +26,7 @@ mutual
       let both : node_need first + members_need rest ≤ most = within in
       (node_bounded most first (omega arith), members_bounded most rest (omega arith))
 
-pub need_is_roots : (tree : Outline) → IsTree tree → OfEach tree (λ d. node_need d ≤ node_need (root_of tree.domains))
+pub need_is_roots : (tree : TreeModel) → IsTree tree → OfEach tree (λ d. node_need d ≤ node_need (root_of tree.domains))
 need_is_roots tree is =
     of_each tree is (λ d. node_need d ≤ node_need (root_of tree.domains))
     (node_bounded (node_need (root_of tree.domains)) (root_of tree.domains) (omega arith))

@@ -3,6 +3,7 @@ use Rattle.std.proofs.Common.{◌≡◌, ℕ, subst, inl, inr, zero, suc, ◌+�
 use Rattle.std.proofs.lemmas.Bool.{cases_eq}
 use Rattle.std.proofs.lemmas.Bool.Decides.{nat_tests}
 use Rattle.cd_tree.specs.Domains.{numbers_from}
+use Rattle.cd_tree.specs.CountLaws.{copies}
 
 -- a property of each of these numbers
 abbrev pub Each : (ℕ → Type 0) → List ℕ → Type 0
@@ -20,11 +21,6 @@ each_at Q at (suc n) k (here, each) from below =
       | inl same ↦ subst Q same here
       | inr other ↦ each_at Q (suc at) n k each (omega arith) (omega arith)
     ]
-
--- how often n stands among these numbers
-abbrev pub copies : ℕ → List ℕ → ℕ
-copies n [] = 0
-copies n (number ∷ numbers) = cond (n == number) 1 0 + copies n numbers
 
 pub copies-append : (n : ℕ) (ms ns : List ℕ) → copies n (ms ++ ns) ≡ copies n ms + copies n ns
 copies-append n [] ns = omega arith

@@ -5,7 +5,7 @@ use Rattle.std.proofs.lemmas.List.Elements.{Contains-append_right}
 use Rattle.std.proofs.lemmas.Option.{slice_get_within, slice_get-get_or}
 use Rattle.cd_tree.specs.declared.domain.NodeId.{NodeId}
 use Rattle.cd_tree.specs.declared.domain.Domain.{Domain}
-use Rattle.cd_tree.specs.Outlines.{Outline, IsTree}
+use Rattle.cd_tree.specs.TreeModel.{TreeModel, IsTree}
 use Rattle.cd_tree.specs.Paths.{path_text_of}
 use Rattle.cd_tree.proofs.View.{domain_fits}
 use Rattle.cd_tree.proofs.PathParents.{parent_before}
@@ -33,7 +33,7 @@ last_slash (x ∷ front) (y ∷ other) name rest p q same =
     let fronts : front ≡ other = both.0 in
     (cc, both.1)
 
-name_has_no_slash : (tree : Outline) → IsTree tree → (id : NodeId) (domain : Domain) → slice_get tree.domains id.0 ≡ Some domain
+name_has_no_slash : (tree : TreeModel) → IsTree tree → (id : NodeId) (domain : Domain) → slice_get tree.domains id.0 ≡ Some domain
     → NoSlash domain.name
 name_has_no_slash tree is id domain there = (domain_fits tree is id domain there).name
 
@@ -41,14 +41,14 @@ name_has_no_slash tree is id domain there = (domain_fits tree is id domain there
 same_number : (id other : NodeId) → id.0 ≡ other.0 → id ≡ other
 same_number id other e = let make : ℕ → NodeId = λ n. record { 0 = n } in ap make e
 
-siblings_same : (tree : Outline) → IsTree tree → (id other : NodeId) (one two : Domain)
+siblings_same : (tree : TreeModel) → IsTree tree → (id other : NodeId) (one two : Domain)
     → slice_get tree.domains id.0 ≡ Some one → slice_get tree.domains other.0 ≡ Some two
     → one.parent ≡ two.parent → one.name ≡ two.name → id ≡ other
 siblings_same tree is id other one two here there parents names =
     same_number id other (is.siblings id.0 other.0 one two here there parents names)
 
 -- induction over a bound on the first number
-paths_differ : (n : ℕ) (tree : Outline) → IsTree tree → (id other : NodeId) (one two : Domain) (up above : Option NodeId) → id.0 < n
+paths_differ : (n : ℕ) (tree : TreeModel) → IsTree tree → (id other : NodeId) (one two : Domain) (up above : Option NodeId) → id.0 < n
     → slice_get tree.domains id.0 ≡ Some one → slice_get tree.domains other.0 ≡ Some two → one.parent ≡ up → two.parent ≡ above
     → path_text_of tree.domains id ≡ path_text_of tree.domains other → id ≡ other
 paths_differ zero tree is id other one two up above low here there p q same = absurd (omega arith)
@@ -80,7 +80,7 @@ paths_differ (suc n) tree is id other one two (Some up) (Some above) low here th
     up_there above_there refl refl both.0 in
     siblings_same tree is id other one two here there (p ∙ ap Some parents ∙ sym q) both.1
 
-pub no_two_share_a_path : (tree : Outline) → IsTree tree → (id other : NodeId) (one two : Domain)
+pub no_two_share_a_path : (tree : TreeModel) → IsTree tree → (id other : NodeId) (one two : Domain)
     → slice_get tree.domains id.0 ≡ Some one → slice_get tree.domains other.0 ≡ Some two
     → path_text_of tree.domains id ≡ path_text_of tree.domains other → id ≡ other
 no_two_share_a_path tree is id other one two here there same =

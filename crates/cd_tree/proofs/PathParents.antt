@@ -10,7 +10,7 @@ use Rattle.cd_tree.specs.declared.domain.Item.TheVariants.{Run, Group}
 use Rattle.cd_tree.specs.declared.domain.Domain.{Domain}
 use Rattle.cd_tree.specs.declared.kinds.KindName.{KindName}
 use Rattle.cd_tree.specs.Domains.{Node, node, Members, put_first, members_by, body_by, nodes_from, root_of, number_of, body_of, node_numbers, body_numbers, member_numbers, numbers_from}
-use Rattle.cd_tree.specs.Outlines.{Outline, IsTree, NamesChildren, FitsItems, EachFits}
+use Rattle.cd_tree.specs.TreeModel.{TreeModel, IsTree, NamesChildren, FitsItems, EachFits}
 use Rattle.cd_tree.proofs.Numbers.{Each, each_append, each_at}
 
 -- the domain of this number is there and has a parent before it
@@ -93,7 +93,7 @@ pub held : (P : Domain → Type 0) (found : Option Domain) (domain : Domain) →
 held P found domain is h = subst (λ (o : Option Domain). IsSomeAnd o P) is h
 
 -- the parent of a domain stands before it
-pub parent_before : (tree : Outline) → IsTree tree → (id : NodeId) (domain : Domain) → slice_get tree.domains id.0 ≡ Some domain
+pub parent_before : (tree : TreeModel) → IsTree tree → (id : NodeId) (domain : Domain) → slice_get tree.domains id.0 ≡ Some domain
     → (parent : NodeId) → domain.parent ≡ Some parent → parent.0 < id.0
 parent_before tree is id domain there parent up =
     elim (cases_eq 0 id.0) [

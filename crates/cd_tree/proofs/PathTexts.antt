@@ -5,7 +5,7 @@ use Rattle.std.proofs.lemmas.Option.{slice_get_within, slice_get-get_or}
 use Rattle.std.proofs.lemmas.List.{map-append, length-append}
 use Rattle.cd_tree.specs.declared.domain.NodeId.{NodeId}
 use Rattle.cd_tree.specs.declared.domain.Domain.{Domain}
-use Rattle.cd_tree.specs.Outlines.{Outline, IsTree}
+use Rattle.cd_tree.specs.TreeModel.{TreeModel, IsTree}
 use Rattle.cd_tree.specs.Scripts.{path_under, paths_from, path_of}
 use Rattle.cd_tree.specs.Paths.{name_of, path_text_of}
 use Rattle.cd_tree.proofs.PathParents.{parent_before}
@@ -79,7 +79,7 @@ joined_last c (first ∷ second ∷ names) above name =
     ap (λ (rest : List ℕ). first ++ c ∷ rest) (joined_last c (second ∷ names) above name)
     ∙ sym (append_assoc first (c ∷ join_with_byte c ((second ∷ names) ++ above ∷ [])) (c ∷ name))
 
-pub earlier_parent : (tree : Outline) → IsTree tree → (id : NodeId) (domain : Domain) → slice_get tree.domains id.0 ≡ Some domain
+pub earlier_parent : (tree : TreeModel) → IsTree tree → (id : NodeId) (domain : Domain) → slice_get tree.domains id.0 ≡ Some domain
     → (parent : Option NodeId) → domain.parent ≡ parent → IfSome parent (λ p. p.0 < id.0)
 earlier_parent tree is id domain there None up = tt
 earlier_parent tree is id domain there (Some parent) up = parent_before tree is id domain there parent up
@@ -88,7 +88,7 @@ name_there : (domains : List Domain) (id : NodeId) (domain : Domain) → slice_g
 name_there domains id domain there = rw there
 
 -- the root's path is its name
-pub text_of_root : (tree : Outline) → IsTree tree → (id : NodeId) (domain : Domain) → slice_get tree.domains id.0 ≡ Some domain
+pub text_of_root : (tree : TreeModel) → IsTree tree → (id : NodeId) (domain : Domain) → slice_get tree.domains id.0 ≡ Some domain
     → domain.parent ≡ None → path_text_of tree.domains id ≡ domain.name
 text_of_root tree is id domain there up =
     let path : path_of tree.domains id ≡ id ∷ [] =
@@ -98,7 +98,7 @@ text_of_root tree is id domain there up =
     ∙ name_there tree.domains id domain there
 
 -- any other domain's path is its parent's, `/` and its name
-pub text_of_child : (tree : Outline) → IsTree tree → (id : NodeId) (domain : Domain) → slice_get tree.domains id.0 ≡ Some domain
+pub text_of_child : (tree : TreeModel) → IsTree tree → (id : NodeId) (domain : Domain) → slice_get tree.domains id.0 ≡ Some domain
     → (parent : NodeId) → domain.parent ≡ Some parent
     → path_text_of tree.domains id ≡ path_text_of tree.domains parent ++ 47 ∷ domain.name
 text_of_child tree is id domain there parent up =
@@ -130,7 +130,7 @@ pushed (Ok u) new before added wanted is all = is ∙ all
 pushed (Err e) new before added wanted is all = tt
 
 -- the root's name behind a text
-pub at_root : (tree : Outline) → IsTree tree → (id : NodeId) (domain : Domain) → slice_get tree.domains id.0 ≡ Some domain
+pub at_root : (tree : TreeModel) → IsTree tree → (id : NodeId) (domain : Domain) → slice_get tree.domains id.0 ≡ Some domain
     → domain.parent ≡ None → (before text name : List ℕ) → before ≡ text → name ≡ domain.name
     → before ++ name ≡ text ++ path_text_of tree.domains id
 at_root tree is id domain there up before text name same named =
@@ -138,7 +138,7 @@ at_root tree is id domain there up before text name same named =
     cc
 
 -- the parent's path, `/` and the name behind a text
-pub below_parent : (tree : Outline) → IsTree tree → (id : NodeId) (domain : Domain) → slice_get tree.domains id.0 ≡ Some domain
+pub below_parent : (tree : TreeModel) → IsTree tree → (id : NodeId) (domain : Domain) → slice_get tree.domains id.0 ≡ Some domain
     → (parent : NodeId) → domain.parent ≡ Some parent → (before text name : List ℕ)
     → before ≡ (text ++ path_text_of tree.domains parent) ++ 47 ∷ [] → name ≡ domain.name
     → before ++ name ≡ text ++ path_text_of tree.domains id

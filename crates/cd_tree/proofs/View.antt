@@ -7,7 +7,7 @@ use Rattle.cd_tree.specs.declared.domain.Item.TheVariants.{Run, Group}
 use Rattle.cd_tree.specs.declared.domain.Domain.{Domain}
 use Rattle.cd_tree.specs.declared.kinds.KindName.{KindName}
 use Rattle.cd_tree.specs.Domains.{Node, node, Body, members_by, body_by, nodes_from, node_of}
-use Rattle.cd_tree.specs.Outlines.{Outline, IsTree, NamesChildren, FitsItems, FitsDomain, EachFits}
+use Rattle.cd_tree.specs.TreeModel.{TreeModel, IsTree, NamesChildren, FitsItems, FitsDomain, EachFits}
 
 -- each of these numbers is above a number
 abbrev pub NamesLater : ℕ → List NodeId → Type 0
@@ -116,14 +116,14 @@ fits_at kinds all at (first ∷ domains) (suc k) domain (here, fits) is =
     rw sum (fits_at kinds all (suc at) domains k domain fits is)
 
 -- each domain of a program is as a program wants it
-pub domain_fits : (tree : Outline) → IsTree tree → (id : NodeId) (domain : Domain) → slice_get tree.domains id.0 ≡ Some domain
+pub domain_fits : (tree : TreeModel) → IsTree tree → (id : NodeId) (domain : Domain) → slice_get tree.domains id.0 ≡ Some domain
     → FitsDomain tree.kinds tree.domains id.0 domain
 domain_fits tree is id domain there =
     let sum : 0 + id.0 ≡ id.0 = omega arith in
     rw sum at (fits_at tree.kinds tree.domains 0 tree.domains id.0 domain is.each there)
 
 -- the groups of each domain of a program name later domains
-pub tree_names_later : (tree : Outline) → IsTree tree → (id : NodeId) (domain : Domain)
+pub tree_names_later : (tree : TreeModel) → IsTree tree → (id : NodeId) (domain : Domain)
     → slice_get tree.domains id.0 ≡ Some domain → GroupsNameLater id.0 domain.items
 tree_names_later tree is id domain there =
     items_name_later tree.domains id.0 domain.items (domain_fits tree is id domain there).items
@@ -139,7 +139,7 @@ nested_view_follows_where domains id domain there later =
     (omega arith) (ap (slice_get domains) (from id.0) ∙ there) later in
     ap (slice_get (nodes_from 0 domains)) (sym (from id.0)) ∙ view
 
-pub nested_view_follows : (tree : Outline) → IsTree tree → (id : NodeId) (domain : Domain) → slice_get tree.domains id.0 ≡ Some domain
+pub nested_view_follows : (tree : TreeModel) → IsTree tree → (id : NodeId) (domain : Domain) → slice_get tree.domains id.0 ≡ Some domain
     → node_of tree.domains id ≡ Some (node id domain (body_by (node_of tree.domains) domain.items))
 nested_view_follows tree is id domain there =
     nested_view_follows_where tree.domains id domain there (tree_names_later tree is id domain there)

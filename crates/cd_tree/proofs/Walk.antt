@@ -7,7 +7,7 @@ use Rattle.cd_tree.specs.declared.domain.Item.TheVariants.{Run, Group}
 use Rattle.cd_tree.specs.declared.domain.Domain.{Domain}
 use Rattle.cd_tree.specs.Domains.{Node, Body, Members, node, no_more, put_first, members_by, body_by, nodes_from, node_of, root_of, node_numbers, body_numbers, member_numbers, node_depth, body_depth, members_depth, numbers_from}
 use Rattle.cd_tree.specs.declared.kinds.KindName.{KindName}
-use Rattle.cd_tree.specs.Outlines.{FitsDomain, EachFits}
+use Rattle.cd_tree.specs.TreeModel.{FitsDomain, EachFits}
 use Rattle.cd_tree.specs.Parts.{AreFew, IsWalkable, WalkGives}
 use Rattle.cd_tree.proofs.View.{items_name_later, fits_at, nested_view_follows_where}
 use Rattle.cd_tree.proofs.EachDomain.{root_there}
@@ -26,11 +26,12 @@ numbers_joined at (suc m) n behind is =
     let many : suc (m + n) ≡ suc m + n = omega arith in
     ap (λ (rest : List ℕ). at ∷ rest) (numbers_joined (suc at) m n behind (omega arith)) ∙ ap (numbers_from at) many
 
-record Parts (xs ys : List ℕ) (at n : ℕ) : Type 0 where
-  front : xs ≡ numbers_from at (length xs)
-  back : ys ≡ numbers_from (at + length xs) (n - length xs)
+-- two lists that are a run of numbers together
+pub record Parts (xs ys : List ℕ) (at n : ℕ) : Type 0 where
+  pub front : xs ≡ numbers_from at (length xs)
+  pub back : ys ≡ numbers_from (at + length xs) (n - length xs)
 
-numbers_parted : (xs ys : List ℕ) (at n : ℕ) → xs ++ ys ≡ numbers_from at n → Parts xs ys at n
+pub numbers_parted : (xs ys : List ℕ) (at n : ℕ) → xs ++ ys ≡ numbers_from at n → Parts xs ys at n
 numbers_parted [] ys at n is =
     let here : at ≡ at + 0 = omega arith in
     let many : n ≡ n - 0 = omega arith in
@@ -120,7 +121,7 @@ members_join find =
     }
 
 -- the element at an index stands before those behind it
-ahead_read : {X : Type 0} (xs : List X) (i : ℕ) (x : X) → i < length xs → x ≡ get_or xs i x → drop i xs ≡ x ∷ drop (i + 1) xs
+pub ahead_read : {X : Type 0} (xs : List X) (i : ℕ) (x : X) → i < length xs → x ≡ get_or xs i x → drop i xs ≡ x ∷ drop (i + 1) xs
 ahead_read xs i x within is = drop_more xs i x within ∙ ap (λ y. y ∷ drop (i + 1) xs) (sym is)
 
 -- what the walk over the rest of a list answers is the answer for the whole list

@@ -13,7 +13,7 @@ use Rattle.cd_tree.specs.Domains.{Members, node_of, node_numbers, node_depth, nu
 use Rattle.cd_tree.specs.Meaning.{initial, node_meaning, node_need}
 use Rattle.cd_tree.specs.Scripts.{path_of}
 use Rattle.cd_tree.specs.Reading.{Told, Done, SomeEscalated, blame, no_begins, counted, read_node, read_members}
-use Rattle.cd_tree.specs.Record.{front_of_node}
+use Rattle.cd_tree.specs.Fronts.{Front, front_of_node}
 use Rattle.cd_tree.proofs.WorkedForms.{number, root, inner, part, copied, strike, case_with, read_all, counts_of, words_of, begin, saved, refilled, reached, found, complete, escalate}
 
 abbrev y : Range
@@ -98,14 +98,14 @@ pair_need : node_need (root_of pair) ≡ 4
 pair_need = refl
 
 -- the front of the root's reading up to its group, in its t-th try
-abbrev front_at : ℕ → ℕ → Option (Told ℕ)
+abbrev front_at : ℕ → ℕ → Option (Told Front)
 front_at t point = front_of_node (case_with 0 faults) (root_of pair) no_begins t point
 
-abbrev front_events : Option (Told ℕ) → Option (List Event)
-front_events front = option_map (λ (t : Told ℕ). t.past.events) front
+abbrev front_events : Option (Told Front) → Option (List Event)
+front_events front = option_map (λ (t : Told Front). t.past.events) front
 
-abbrev front_notes : Option (Told ℕ) → Option ℕ
-front_notes front = option_map (λ (t : Told ℕ). t.answer) front
+abbrev front_notes : Option (Told Front) → Option ℕ
+front_notes front = option_map (λ (t : Told Front). t.answer.stand.notes) front
 
 first_try : front_events (front_at 1 0) ≡ Some (begin 0 1 ∷ saved 0 0 ∷ saved 0 1 ∷ reached 0 0 ∷ [])
 unfolding read_node
@@ -115,7 +115,7 @@ first_try_notes : front_notes (front_at 1 0) ≡ Some 0
 unfolding read_node
 first_try_notes = refl
 
-first_try_counts : option_map (λ (t : Told ℕ). counts_of t.counts 3) (front_at 1 0) ≡ Some (1 ∷ 0 ∷ 0 ∷ [])
+first_try_counts : option_map (λ (t : Told Front). counts_of t.counts 3) (front_at 1 0) ≡ Some (1 ∷ 0 ∷ 0 ∷ [])
 unfolding read_node
 first_try_counts = refl
 
@@ -128,15 +128,15 @@ second_try : front_events (front_at 2 0)
 unfolding read_node
 second_try = refl
 
-second_try_repeats : option_map (λ (t : Told ℕ). t.past.repeats) (front_at 2 0) ≡ Some 1
+second_try_repeats : option_map (λ (t : Told Front). t.past.repeats) (front_at 2 0) ≡ Some 1
 unfolding read_node
 second_try_repeats = refl
 
-second_try_strikes : option_map (λ (t : Told ℕ). t.past.strikes) (front_at 2 0) ≡ Some 1
+second_try_strikes : option_map (λ (t : Told Front). t.past.strikes) (front_at 2 0) ≡ Some 1
 unfolding read_node
 second_try_strikes = refl
 
-second_try_counts : option_map (λ (t : Told ℕ). counts_of t.counts 3) (front_at 2 0) ≡ Some (2 ∷ 1 ∷ 1 ∷ [])
+second_try_counts : option_map (λ (t : Told Front). counts_of t.counts 3) (front_at 2 0) ≡ Some (2 ∷ 1 ∷ 1 ∷ [])
 unfolding read_node
 second_try_counts = refl
 

@@ -12,7 +12,7 @@ use Rattle.cd_tree.specs.declared.kinds.KindName.{KindName}
 use Rattle.cd_tree.specs.declared.operation.Op.TheVariants.{Fill}
 use Rattle.cd_tree.specs.KindSets.{has_kind}
 use Rattle.cd_tree.specs.Operations.{IsFull}
-use Rattle.cd_tree.specs.Outlines.{Outline, IsTree, FitsDomain, SiblingsDiffer, KindsDiffer}
+use Rattle.cd_tree.specs.TreeModel.{TreeModel, IsTree, FitsDomain, SiblingsDiffer, KindsDiffer}
 use Rattle.cd_tree.specs.Scripts.{CanStrike, IsAccepted, DetectableMembers}
 use Rattle.cd_tree.specs.Domains.{members_by, node_of, root_of, node_numbers, node_depth}
 use Rattle.cd_tree.specs.Parts.{WalkGives}
@@ -39,7 +39,7 @@ right = record { name = 99 ∷ []; parent = Some (number 0); retry = 1; detects 
 abbrev kinds : List KindName
 kinds = record { name = 102 ∷ []; halts = false } ∷ record { name = 110 ∷ []; halts = false } ∷ []
 
-abbrev pair : Outline
+abbrev pair : TreeModel
 pair = record { kinds = kinds; domains = first ∷ left ∷ right ∷ [] }
 
 -- the path of the second member is r/c
@@ -194,6 +194,7 @@ members_found = (
 pair_accepts : IsAccepted pair faults
 pair_accepts =
     record {
+      few = omega arith;
       strikes =
           All-cons (CanStrike pair) flip (node ∷ []) (omega arith, refl)
           (All-cons (CanStrike pair) node [] (omega arith, refl) (All-nil (CanStrike pair)));

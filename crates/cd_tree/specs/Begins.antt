@@ -6,7 +6,7 @@ use Rattle.cd_tree.specs.declared.document.Fault.{Fault}
 use Rattle.cd_tree.specs.declared.event.Event.{Event}
 use Rattle.cd_tree.specs.declared.event.Event.TheVariants.{Begin, Found, Complete, Escalate}
 use Rattle.cd_tree.specs.KindSets.{no_kinds}
-use Rattle.cd_tree.specs.Outlines.{Outline, IsTree}
+use Rattle.cd_tree.specs.TreeModel.{TreeModel, IsTree}
 use Rattle.cd_tree.specs.Record.{record_of}
 
 -- the domain with this number has this parent
@@ -41,7 +41,7 @@ DoesNotBegin id events = (number : ℕ) → Contains events (Begin id number) �
 -- between two begins of a domain its parent begins, or its own try fails and it stays open
 abbrev pub BeginsFollowFailures : Type 0
 BeginsFollowFailures =
-    (tree : Outline) (faults : List Fault) → IsTree tree → (id : NodeId) (first second : ℕ) (before between behind : List Event)
+    (tree : TreeModel) (faults : List Fault) → IsTree tree → (id : NodeId) (first second : ℕ) (before between behind : List Event)
     → record_of tree faults ≡ before ++ Begin id first ∷ (between ++ Begin id second ∷ behind)
     → DoesNotBegin id between
     → ParentBegins tree.domains id between ⊎ (TryFails tree.domains id between × StaysOpen id between)
@@ -49,7 +49,7 @@ BeginsFollowFailures =
 -- the next begin of a domain has the next number
 abbrev pub BeginsNumberOn : Type 0
 BeginsNumberOn =
-    (tree : Outline) (faults : List Fault) (id : NodeId) (first second : ℕ) (before between behind : List Event)
+    (tree : TreeModel) (faults : List Fault) (id : NodeId) (first second : ℕ) (before between behind : List Event)
     → record_of tree faults ≡ before ++ Begin id first ∷ (between ++ Begin id second ∷ behind)
     → DoesNotBegin id between
     → second ≡ first + 1

@@ -22,6 +22,13 @@ mutual
     no_more : Members
     member : (first : Node) (rest : Members) → Members
 
+-- the items that are left behind the first ones of this number
+abbrev pub body_behind : ℕ → Body → Body
+body_behind zero body = body
+body_behind (suc k) stop = stop
+body_behind (suc k) (run op rest) = body_behind k rest
+body_behind (suc k) (group members rest) = body_behind k rest
+
 abbrev pub put_first : Option Node → Members → Members
 put_first None rest = rest
 put_first (Some first) rest = member first rest

@@ -15,7 +15,7 @@ use Rattle.cd_tree.specs.declared.event.Kept.{Kept}
 use Rattle.cd_tree.specs.declared.event.Kept.TheVariants as kept
 use Rattle.cd_tree.specs.declared.event.Event.{Event}
 use Rattle.cd_tree.specs.declared.event.Event.TheVariants.{Begin, Saved, Fell, Lapsed, Refilled, Reached, Halted, Found, Complete, Escalate}
-use Rattle.cd_tree.specs.Outlines.{Outline}
+use Rattle.cd_tree.specs.TreeModel.{TreeModel}
 
 -- an entry of a domain, both by their numbers
 abbrev pub entry_at : List Domain → NodeId → ℕ → Option Entry
@@ -27,7 +27,7 @@ OfPattern P entry Copy = ⊥
 OfPattern P entry Refer = ⊥
 OfPattern P entry (Regen pattern) = P entry.range pattern
 
-abbrev pub IsPatternAnd : Outline → NodeId → ℕ → (Range → Pattern → Type 0) → Type 0
+abbrev pub IsPatternAnd : TreeModel → NodeId → ℕ → (Range → Pattern → Type 0) → Type 0
 IsPatternAnd tree id entry P = IsSomeAnd (entry_at tree.domains id entry) (λ e. OfPattern P e e.how)
 
 -- the pattern gives each word of the range
@@ -46,13 +46,13 @@ DiffersFirst w place found range pattern =
     × ((p : Place) → in_range range p ≡ true → p.index < place.index → w p ≡ Some (pattern_word pattern p.index))
 
 -- the root's words are those that it was loaded with: there a pattern is kept to exactly where it gives them
-abbrev pub IsKeptTo : Outline → Words → NodeId → ℕ → Kept → Type 0
+abbrev pub IsKeptTo : TreeModel → Words → NodeId → ℕ → Kept → Type 0
 IsKeptTo tree loaded id entry kept.Copy = Unit {0}
 IsKeptTo tree loaded id entry kept.Refer = Unit {0}
 IsKeptTo tree loaded id entry kept.Regen = id.0 ≡ 0 → IsPatternAnd tree id entry (GivesWords loaded)
 
 -- an event that may stand as the reading has it
-abbrev pub MayStand : Outline → Words → Event → Type 0
+abbrev pub MayStand : TreeModel → Words → Event → Type 0
 MayStand tree loaded (Begin id number) = Unit {0}
 MayStand tree loaded (Saved id entry how) = IsKeptTo tree loaded id entry how
 MayStand tree loaded (Fell id entry place wanted found) = Unit {0}
@@ -65,12 +65,12 @@ MayStand tree loaded (Complete id) = Unit {0}
 MayStand tree loaded (Escalate id) = Unit {0}
 
 -- a pattern that was given up for a copy
-pub record MayFall (tree : Outline) (loaded : Words) (id : NodeId) (entry : ℕ) (place : Place) (wanted found : ℕ) : Type 0 where
+pub record MayFall (tree : TreeModel) (loaded : Words) (id : NodeId) (entry : ℕ) (place : Place) (wanted found : ℕ) : Type 0 where
   pub differs : IsPatternAnd tree id entry (Differs place wanted found)
   pub first : id.0 ≡ 0 → IsPatternAnd tree id entry (DiffersFirst loaded place found)
 
 -- a record, first, and the reading's, second: equal but for the entries that fell back to a copy
-pub data Legal (tree : Outline) (loaded : Words) : List Event → List Event → Type 0 where
+pub data Legal (tree : TreeModel) (loaded : Words) : List Event → List Event → Type 0 where
   nothing : Legal tree loaded [] []
   same : (event : Event) (actual expected : List Event) (stands : MayStand tree loaded event)
       (rest : Legal tree loaded actual expected) → Legal tree loaded (event ∷ actual) (event ∷ expected)

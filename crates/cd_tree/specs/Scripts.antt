@@ -1,5 +1,5 @@
 -- Fault scripts: which entries strike where, and what it means that a script is accepted for a program.
-use Rattle.std.specs.Prelude.{◌≡◌, ℕ, ◌≤◌, Bool, true, ◌&&◌, ◌==◌, bit_or, IsTrue, List, [], ◌∷◌, ◌++◌, Option, None, Some, length, filter, slice_get, unwrap_or, All, IsSomeAnd}
+use Rattle.std.specs.Prelude.{◌≡◌, ℕ, ◌^◌, ◌<◌, ◌≤◌, Bool, true, ◌&&◌, ◌==◌, bit_or, IsTrue, List, [], ◌∷◌, ◌++◌, Option, None, Some, length, filter, slice_get, unwrap_or, All, IsSomeAnd}
 use Rattle.std.specs.Option.{option_map_or}
 use Rattle.cd_base.specs.Words.{Words, struck_word}
 use Rattle.cd_tree.specs.declared.domain.NodeId.{NodeId}
@@ -7,7 +7,7 @@ use Rattle.cd_tree.specs.declared.domain.Domain.{Domain}
 use Rattle.cd_tree.specs.declared.document.Fault.{Fault}
 use Rattle.cd_tree.specs.KindSets.{only_kind, has_kind, no_kinds}
 use Rattle.cd_tree.specs.Domains.{Node, Body, Members, node, stop, run, group, no_more, member, domain_of, node_of, root_of}
-use Rattle.cd_tree.specs.Outlines.{Outline}
+use Rattle.cd_tree.specs.TreeModel.{TreeModel}
 use Rattle.cd_tree.specs.Meaning.{node_reach}
 
 -- whether a fault strikes at this begin and point of this domain
@@ -45,13 +45,14 @@ abbrev mutual
   DetectableMembers faults above (member first rest) = IsDetectable faults above first × DetectableMembers faults above rest
 
 -- a fault that can strike: its domain is there and has that point, and its place is in the domain's reach
-abbrev pub CanStrike : Outline → Fault → Type 0
+abbrev pub CanStrike : TreeModel → Fault → Type 0
 CanStrike tree fault =
     IsSomeAnd (node_of tree.domains fault.node) (λ d.
     (fault.item ≤ length (domain_of d).items) × (node_reach d fault.place ≡ true))
 
--- a script that is accepted for a program: each entry can strike, and can be found
-pub record IsAccepted (tree : Outline) (faults : List Fault) : Type 0 where
+-- a script that is accepted for a program: it has fewer than 2^32 entries, each can strike, and each can be found
+pub record IsAccepted (tree : TreeModel) (faults : List Fault) : Type 0 where
+  pub few : length faults < 2 ^ 32
   pub strikes : All (CanStrike tree) faults
   pub found : IsDetectable faults no_kinds (root_of tree.domains)
 

@@ -2,31 +2,18 @@
 
 ghost use Rattle.std.specs.Prelude.{◌≡◌, ◌≢◌, ◌↔◌, ◌<◌, ◌≤◌, ℕ, List, [], ◌∷◌, None, Some, length, slice_get, sum_by, IsTrue, IsSomeAnd, MatchOption, All, Contains};
 ghost use Rattle.cd_tree.specs.Domains.{root_of, node_of, members_by, body_by, node_numbers, body_numbers, member_numbers, node_depth, body_depth, members_depth, numbers_from};
+ghost use Rattle.cd_tree.specs.Limits.{kinds_limit, entries_limit, members_limit, depth_limit};
 ghost use Rattle.cd_tree.specs.Operations.{IsFull};
-ghost use Rattle.cd_tree.specs.Outlines.{IsTree, FitsDomain, EachFits, FitsItems, NamesChildren, SiblingsDiffer, KindsDiffer};
+ghost use Rattle.cd_tree.specs.TreeModel.{IsTree, FitsDomain, EachFits, FitsItems, NamesChildren, SiblingsDiffer, KindsDiffer};
 ghost use Rattle.cd_tree.specs.Parts.{AreFew, IsWalkable, WalkGives};
 
+use crate::limits::{
+    MOST_DEPTH, MOST_DOMAINS, MOST_ENTRIES, MOST_ITEMS, MOST_KINDS, MOST_MEMBERS, MOST_PRESERVES,
+    MOST_RETRY,
+};
 use crate::operation::{fits, is_full};
 use crate::{Domain, Entry, Item, KindName, NodeId};
 use cd_base::Text;
-
-// The limits of a program.
-const MOST_KINDS: usize = 16;
-
-const MOST_DOMAINS: usize = 2048;
-
-const MOST_LEVELS: u32 = 16;
-
-const MOST_ITEMS: usize = 16384;
-
-const MOST_ENTRIES: usize = 16384;
-
-// The limits of a domain and of a group.
-const MOST_TRIES: u32 = 100;
-
-const MOST_OWN_ENTRIES: usize = 64;
-
-const MOST_MEMBERS: usize = 256;
 
 /// Whether kinds and domains are a program's. It takes no memory. Each two domains are compared, and each two kinds.
 pub(crate) fn is_tree(kinds: &[KindName], domains: &[Domain]) -> bool
@@ -46,7 +33,7 @@ fn are_few(kinds: &[KindName], domains: &[Domain]) -> bool
         && domains.len() <= MOST_DOMAINS
         && kinds.len() <= MOST_KINDS
         && items_within(domains, MOST_ITEMS)
-        && entries_within(domains, MOST_ENTRIES)
+        && entries_within(domains, MOST_PRESERVES)
 }
 
 // Whether the domains have at most so many items together.
@@ -157,12 +144,12 @@ fn all_fit(kinds: &[KindName], domains: &[Domain]) -> bool
 
 // Whether one domain, by its number, is as a program wants it.
 fn domain_fits(kinds: &[KindName], domains: &[Domain], at: u32, domain: &Domain) -> bool
-    requires { length kinds.now ≤ 16 }
+    requires { length kinds.now ≤ kinds_limit }
     ensures { IsTrue result ↔ FitsDomain kinds.now domains.now at domain.now }
 {
     is_name(domain.name.as_str().as_bytes())
         && 0 < domain.retry
-        && domain.retry <= MOST_TRIES
+        && domain.retry <= MOST_RETRY
         && domain.detects.are_below(kinds.len())
         && entries_fit(domain.entries.items())
         && items_fit(domains, at, domain.items.items())
@@ -177,9 +164,9 @@ fn is_name(name: &[u8]) -> bool
 
 // Whether there are few entries, each of a range with a place.
 fn entries_fit(entries: &[Entry]) -> bool
-    ensures { IsTrue result ↔ (length entries.now ≤ 64) × All (λ (entry : Entry). IsFull entry.range) entries.now }
+    ensures { IsTrue result ↔ (length entries.now ≤ entries_limit) × All (λ (entry : Entry). IsFull entry.range) entries.now }
 {
-    entries.len() <= MOST_OWN_ENTRIES
+    entries.len() <= MOST_ENTRIES
         && entries
             .iter()
             .all(|entry| entry.range.low < entry.range.high)
@@ -209,7 +196,7 @@ fn item_fits(domains: &[Domain], at: u32, item: &Item) -> bool
 
 // Whether a group has 1 to 256 members, which are children.
 fn group_fits(domains: &[Domain], at: u32, ids: &[NodeId]) -> bool
-    ensures { IsTrue result ↔ (0 < length ids.now) × (length ids.now ≤ 256) × NamesChildren domains.now at ids.now }
+    ensures { IsTrue result ↔ (0 < length ids.now) × (length ids.now ≤ members_limit) × NamesChildren domains.now at ids.now }
 {
     !ids.is_empty() && ids.len() <= MOST_MEMBERS && are_children(domains, at, ids)
 }
@@ -254,9 +241,9 @@ fn domain_at(domains: &[Domain], id: NodeId) -> Option<&Domain>
 fn are_in_order(domains: &[Domain]) -> bool
     requires some { 0 < length domains.now }
     requires view { IsWalkable domains.now }
-    ensures { IsTrue result ↔ (node_numbers (root_of domains.now) ≡ numbers_from 0 (length domains.now)) × (node_depth (root_of domains.now) ≤ 16) }
+    ensures { IsTrue result ↔ (node_numbers (root_of domains.now) ≡ numbers_from 0 (length domains.now)) × (node_depth (root_of domains.now) ≤ depth_limit) }
 {
-    match walk_domain(domains, NodeId(0), 0, MOST_LEVELS) {
+    match walk_domain(domains, NodeId(0), 0, MOST_DEPTH) {
         None => false,
         Some(count) => count as usize == domains.len(),
     }

@@ -1,5 +1,5 @@
 ghost use Rattle.std.specs.Prelude.{◌≡◌, ◌↔◌, ◌<◌, ◌≤◌, ◌^◌, IsTrue, bit_or, bit_and};
-ghost use Rattle.cd_tree.specs.KindSets.{no_kinds, with_kind, has_kind};
+ghost use Rattle.cd_tree.specs.KindSets.{no_kinds, with_kind, has_kind, kinds_without, halting};
 
 use cd_base::Text;
 use std::marker::Model;
@@ -13,6 +13,20 @@ pub struct Kind(pub u8);
 pub struct KindName {
     pub name: Text,
     pub halts: bool,
+}
+
+/// The kinds that halt, of a document's names in the order of declaration. A name from the seventeenth on is that of no
+/// kind. It takes no memory.
+pub fn halting(names: &[KindName]) -> Kinds
+    ensures { result ≡ halting names.now }
+{
+    let mut kinds = Kinds::none();
+    for (at, name) in names.iter().enumerate() {
+        if name.halts {
+            kinds = kinds.with_number(at);
+        }
+    }
+    kinds
 }
 
 /// A set of kinds. Contracts see the number whose bit k says whether kind k is in it.
@@ -49,6 +63,26 @@ impl Kinds {
             }
         } else {
             self
+        }
+    }
+
+    // This set with the kind of a number.
+    fn with_number(self, number: usize) -> Kinds
+        ensures { result ≡ with_kind self (record { 0 = number }) }
+    {
+        if number < 16 {
+            self.with(Kind(number as u8))
+        } else {
+            self
+        }
+    }
+
+    /// The kinds of this set that are not in another.
+    pub fn without(self, others: Kinds) -> Kinds
+        ensures { result ≡ kinds_without self others }
+    {
+        Kinds {
+            bits: self.bits ^ (self.bits & others.bits),
         }
     }
 

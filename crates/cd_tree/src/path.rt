@@ -1,5 +1,5 @@
 ghost use Rattle.std.specs.Prelude.{◌≡◌, ◌≢◌, ◌↔◌, ◌<◌, ◌++◌, ◌∷◌, List, ℕ, length, slice_get, IsTrue, IfOk, OnOk, MatchOption, string_bytes};
-ghost use Rattle.cd_tree.specs.Outlines.{IsTree};
+ghost use Rattle.cd_tree.specs.TreeModel.{IsTree};
 ghost use Rattle.cd_tree.specs.Paths.{path_text_of, IsNoPath, IsFirstAt};
 
 use crate::{NodeId, Tree};

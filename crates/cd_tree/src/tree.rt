@@ -1,7 +1,10 @@
 ghost use Rattle.std.specs.Prelude.{◌≡◌, ◌<◌, ◌^◌, length, slice_get, Some, MatchOption};
+ghost use Rattle.cd_tree.specs.Groups.{IsPlaceOf};
+ghost use Rattle.cd_tree.specs.Slices.{slice_end};
 
 use crate::check::is_tree;
-use crate::{Domain, KindName, NodeId};
+use crate::groups::{last_child, place_among};
+use crate::{Domain, GroupPlace, KindName, NodeId};
 use cd_base::Items;
 use std::marker::Model;
 
@@ -13,9 +16,9 @@ pub struct Tree {
 }
 
 impl Model for Tree {
-    ghost use Rattle.cd_tree.specs.Outlines.{Outline, IsTree};
+    ghost use Rattle.cd_tree.specs.TreeModel.{TreeModel, IsTree};
 
-    ghost Value = { Outline };
+    ghost Value = { TreeModel };
 
     ghost view = { λ tree. record { kinds = tree.kinds; domains = tree.domains } };
 
@@ -23,7 +26,7 @@ impl Model for Tree {
 }
 
 impl Tree {
-    ghost use Rattle.cd_tree.specs.Outlines.{IsTree};
+    ghost use Rattle.cd_tree.specs.TreeModel.{IsTree};
 
     /// The tree of a list of domains. It takes no memory.
     pub fn of(kinds: Items<KindName>, domains: Items<Domain>) -> Tree
@@ -65,5 +68,31 @@ impl Tree {
         ensures { slice_get self.now.domains id.0 ≡ Some result.now }
     {
         &self.domains.items()[id.0 as usize]
+    }
+
+    /// The number behind those of a domain and of all below it, which are the numbers from its own on. It takes no memory,
+    /// and goes down from last child to last child, past the operations that stand behind each: at most 16 levels.
+    pub fn end_of(&self, id: NodeId) -> u32
+        requires { id.0 < length self.now.domains }
+        ensures { result ≡ slice_end self.now.domains id }
+    {
+        prove!(0 < self.count());
+        match last_child(self.node(id).items.items()) {
+            None => id.0 + 1,
+            Some(last) => self.end_of(last),
+        }
+    }
+
+    /// The place of a domain among its parent's items; the root has none. It takes no memory, and compares the domain with
+    /// the children before it.
+    pub fn place_of(&self, id: NodeId) -> Option<GroupPlace>
+        requires { id.0 < length self.now.domains }
+        ensures { IsPlaceOf self.now.domains id result }
+    {
+        prove!(0 < self.count());
+        match self.node(id).parent {
+            None => None,
+            Some(parent) => place_among(self.node(parent).items.items(), id),
+        }
     }
 }

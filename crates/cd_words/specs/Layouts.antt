@@ -1,5 +1,6 @@
 -- The lines of a text laid out for reading: where each loop ends.
 use Rattle.std.specs.Prelude.{◌≡◌, ℕ, ◌+◌, ◌≤◌, Bool, List, length, drop, slice_index, Option, None, Some, Result, Ok, Err}
+use Rattle.cd_tree.specs.Limits.{text_limit}
 use Rattle.cd_tree.specs.declared.refusal.Refuse.{Refuse}
 use Rattle.cd_tree.specs.declared.refusal.Refuse.TheVariants as refuse
 use Rattle.cd_words.specs.declared.wrong.Wrong.TheVariants.{Form}
@@ -28,7 +29,7 @@ pub record IsLayout (bytes : List ℕ) (layout : Layout) : Type 0 where
   pub found : marked_lines bytes ≡ Ok layout.lines
   pub table : IsTable layout.lines layout.after 0
   pub number : layout.count ≡ length (lines bytes)
-  pub few : layout.count ≤ 1048576
+  pub few : layout.count ≤ text_limit
 
 abbrev pub LaysOut : List ℕ → Result Layout Refuse → Type 0
 LaysOut bytes (Ok layout) = IsLayout bytes layout

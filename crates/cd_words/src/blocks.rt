@@ -1,4 +1,5 @@
 ghost use Rattle.std.specs.Prelude.{◌≡◌, ◌∷◌, ◌+◌, ◌<◌, ◌≤◌, ◌^◌, length, reverse, IfOk};
+ghost use Rattle.cd_tree.specs.Limits.{text_limit};
 ghost use Rattle.cd_words.specs.Lines.{lines, words};
 ghost use Rattle.cd_words.specs.Blocks.{no_marks, closed, mark, mark_line, closed_lines};
 ghost use Rattle.cd_words.specs.Steps.{Steps, Gives};
@@ -39,7 +40,7 @@ impl Model for Marking {
 
 /// The layout of a text, or the refusal of the first line that opens or closes a block wrongly.
 pub fn lay_out(alloc: Global, bytes: &[u8]) -> Result<Layout, Refuse>
-    requires { length bytes.now ≤ 1048576 }
+    requires { length bytes.now ≤ text_limit }
     ensures { LaysOut bytes.now result }
 {
     let mut marking = Marking::new(alloc);
@@ -60,7 +61,7 @@ pub fn lay_out(alloc: Global, bytes: &[u8]) -> Result<Layout, Refuse>
 }
 
 fn laid_out(alloc: Global, lines: Items<Line>, count: u32) -> Result<Layout, Refuse>
-    requires { length lines ≤ 1048576 }
+    requires { length lines ≤ text_limit }
     ensures { LaysOutLines lines count result }
 {
     match table(alloc, lines.items()) {
@@ -85,7 +86,7 @@ impl Marking {
 
     // One line more.
     fn take(&mut self, alloc: Global, number: u32, line: &[u8]) -> Result<(), Stop>
-        requires line { length line.now ≤ 1048576 }
+        requires line { length line.now ≤ text_limit }
         requires few { length self.old.lines + 1 < 2 ^ 32 }
         ensures { Steps self.new result (mark_line number (words line.now) self.old) }
     {
@@ -155,7 +156,7 @@ fn close(before: &mut Vec<bool>, rest: &[Bytes]) -> Result<Role, Stop>
 
 // For each line, and for the end, where the block around it goes on.
 fn table(alloc: Global, lines: &[Line]) -> Result<Items<u32>, NoMemory>
-    requires { length lines.now ≤ 1048576 }
+    requires { length lines.now ≤ text_limit }
     ensures { IfOk result (λ after. IsTable lines.now after 0) }
 {
     let count = lines.len();
@@ -170,7 +171,7 @@ fn table(alloc: Global, lines: &[Line]) -> Result<Items<u32>, NoMemory>
 
 // Where the block around a line goes on, where that is known of all lines behind it.
 fn next(lines: &[Line], after: &[u32], at: usize) -> u32
-    requires few { length lines.now ≤ 1048576 }
+    requires few { length lines.now ≤ text_limit }
     requires at { at < length lines.now }
     requires table { IsTable lines.now after.now (at + 1) }
     ensures { Goes lines.now at result }

@@ -1,5 +1,6 @@
 ghost use Rattle.std.specs.Prelude.{◌≡◌, ◌∷◌, ◌+◌, ◌<◌, ◌≤◌, ◌^◌, length, map, filter, IfOk};
 ghost use Rattle.std.specs.List.{slice_split};
+ghost use Rattle.cd_tree.specs.Limits.{text_limit};
 ghost use Rattle.cd_words.specs.Lines.{is_feed, is_blank, is_word, lines, said, words};
 
 use crate::sums::{cut, find};
@@ -40,7 +41,7 @@ pub(crate) fn cut_line(text: &[u8]) -> (&[u8], &[u8])
 
 /// The words of a line.
 pub(crate) fn words(alloc: Global, line: &[u8]) -> Result<Items<Bytes>, NoMemory>
-    requires { length line.now ≤ 1048576 }
+    requires { length line.now ≤ text_limit }
     ensures { IfOk result (λ found. found ≡ words line.now) }
 {
     let said = said(line);

@@ -1,12 +1,11 @@
 use Rattle.std.proofs.Common.{◌≤◌, ◌-◌, length, take}
-use Rattle.std.specs.Io.KnownBytes.{Appends}
+use Rattle.cd_base.specs.Ends.{Grew}
 use Rattle.cd_base.proofs.transfer.write_all.Given as goal
 
 abbrev pub invariant-loop-written : goal.invariant-loop-written
 invariant-loop-written g l = record {
-  front : Appends (g.K.Sink.holds l.fn.sink) (g.K.Sink.holds l.sink) (take l.written l.bytes);
+  front : Grew (g.K.Sink.model l.fn.sink) (g.K.Sink.model l.sink) (take l.written l.bytes);
   within : l.written ≤ length l.bytes;
-  count : g.K.Sink.faults l.fn.sink ≤ g.K.Sink.faults l.sink;
 }
 
 abbrev pub decreases-loop-written : goal.decreases-loop-written

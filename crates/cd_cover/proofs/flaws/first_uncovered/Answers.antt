@@ -3,8 +3,8 @@ use Rattle.cd_cover.proofs.Views.{tree_fits}
 use Rattle.cd_cover.proofs.Coverage.{full_ranges, least_uncovered}
 use Rattle.cd_cover.proofs.flaws.first_uncovered.Goals as goal
 
-pub of-requires-clause-full : goal.of-requires-clause-full
-of-requires-clause-full c =
+pub of-requires : goal.of-requires
+of-requires c =
     full_ranges c.node.result.now.entries c.items.result.now c.deref.result.now c.items.ensures.value
     (c.deref.ensures.value ∙ c.in_ok-ranges.ensures)
     (tree_fits c.args.tree.now c.requires.tree c.args.node c.node.result.now c.node.ensures).ranges

@@ -1,7 +1,7 @@
 use Rattle.std.proofs.Common.{◌≡◌, ◌<◌, ◌≤◌, ◌+◌, ◌∙◌, ℕ, List, All, drop, slice_index, sum_by, subst, sym, ap, arith}
 use Rattle.cd_tree.specs.declared.domain.NodeId.{NodeId}
 use Rattle.cd_tree.specs.declared.domain.Item.{Item}
-use Rattle.cd_tree.specs.Outlines.{FitsItems, NamesChildren}
+use Rattle.cd_tree.specs.TreeModel.{FitsItems, NamesChildren}
 use Rattle.cd_tree.specs.Domains.{members_by, body_by, node_of}
 use Rattle.cd_tree.specs.Meaning.{body_need, members_need}
 use Rattle.cd_cover.proofs.Views.{tree_fits, members_here}

@@ -1,5 +1,6 @@
 use Rattle.std.proofs.Common.{◌≡◌, ◌<◌, ◌≤◌, ◌∙◌, Option, None, length, subst, ap, inr, refl, arith}
 use Rattle.std.proofs.lemmas.List.{length-map}
+use Rattle.cd_tree.specs.Limits.{need_limit}
 use Rattle.cd_tree.specs.declared.refusal.Refusal.{Refusal}
 use Rattle.cd_tree.specs.Domains.{nodes_from, root_of}
 use Rattle.cd_tree.specs.Meaning.{node_need}
@@ -16,8 +17,8 @@ index-need-requires c =
     let some : 0 < length c.args.tree.now.domains = c.count.ensures.sound.some in
     omega arith
 
-pub returns-then-need-gt-MOST_BLOCKS : goal.returns-then-need-gt-MOST_BLOCKS
-returns-then-need-gt-MOST_BLOCKS c =
+pub returns-then-need-gt-MOST_NEED : goal.returns-then-need-gt-MOST_NEED
+returns-then-need-gt-MOST_NEED c =
     let clear : FirstOf (DomainOf c.args.tree.now.domains) (nodes_from 0 c.args.tree.now.domains) None =
     subst (λ (o : Option Refusal). FirstOf (DomainOf c.args.tree.now.domains) (nodes_from 0 c.args.tree.now.domains) o) c.in_default.is
     c.in_ok-refusal.ensures in
@@ -27,7 +28,7 @@ returns-then-need-gt-MOST_BLOCKS c =
         refl,
         root_read c.args.tree.now.domains c.in_ok-needs.needs.items c.index-need.result.now c.count.ensures.sound.some c.in_ok-needs.ensures
             c.index-need.ensures,
-        c.if-need-gt-MOST_BLOCKS.true,
+        c.if-need-gt-MOST_NEED.true,
       ),
     )
 
@@ -47,5 +48,5 @@ of-requires c =
       linked = fresh_links c.args.tree.now c.count.ensures.sound c.the_nested_view_follows_the_list.ensures clear;
       link = c.in_ok-links.ensures;
       need = c.in_ok-needs.ensures;
-      within = subst (λ n. n ≤ 65536) need c.if-need-gt-MOST_BLOCKS.false;
+      within = subst (λ n. n ≤ need_limit) need c.if-need-gt-MOST_NEED.false;
     }

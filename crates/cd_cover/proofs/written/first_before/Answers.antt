@@ -3,7 +3,7 @@ use Rattle.std.specs.List.{list_any}
 use Rattle.cd_base.specs.Words.{in_range}
 use Rattle.cd_base.specs.Places.{IsLeast}
 use Rattle.cd_tree.specs.declared.domain.NodeId.{NodeId}
-use Rattle.cd_tree.specs.Outlines.{FitsItems, NamesChildren}
+use Rattle.cd_tree.specs.TreeModel.{FitsItems, NamesChildren}
 use Rattle.cd_tree.specs.Domains.{node_of}
 use Rattle.cd_cover.proofs.Views.{tree_fits, members_here}
 use Rattle.cd_cover.proofs.Steps.{by_members, ItemsLeft, items_all, run_at, group_at, group_with_child, items_end, named_at, at_view}

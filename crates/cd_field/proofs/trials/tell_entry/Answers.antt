@@ -3,5 +3,5 @@ use Rattle.cd_field.proofs.trials.tell_entry.Goals as goal
 
 pub returns-in_ok-fell-in-2 : goal.returns-in_ok-fell-in-2
 returns-in_ok-fell-in-2 g c =
-    ready_told (g.F.Field.state c.args.field.now) (g.F.Field.state c.fell.new.self) _
+    ready_told (g.F.Field.model c.args.field.now) (g.F.Field.model c.fell.new.self) _
     (c.in_ok-fell-in-2.ensures c.read-found.result c.read-found.ensures) c.requires

@@ -1,5 +1,5 @@
 use Rattle.std.proofs.Common.{◌≡◌, map, take}
-use Rattle.cd_keep.specs.Rows.{unheld, shut}
+use Rattle.cd_keep.specs.LayerModel.{unheld, shut}
 use Rattle.cd_keep.proofs.layers.copy_each.Given as goal
 
 abbrev pub invariant-loop-layer : goal.invariant-loop-layer

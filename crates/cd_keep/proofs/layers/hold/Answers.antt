@@ -1,20 +1,19 @@
 use Rattle.std.proofs.Common.{ap, ◌∙◌, get_or}
-use Rattle.cd_keep.specs.Rows.{Row}
-use Rattle.cd_keep.proofs.RowLemmas.{known_in-set, holds_in-more, known_within, row_read}
+use Rattle.cd_keep.specs.LayerModel.{LayerModel}
+use Rattle.cd_keep.proofs.LayerLemmas.{known_in-set, holds_in-more, known_within, layer_read}
 use Rattle.cd_keep.proofs.layers.hold.Goals as goal
 
 pub returns-clause-known : goal.returns-clause-known
 returns-clause-known c =
-    let rows = c.args.layers.now in
-    let within = known_within rows c.args.id c.requires.known in
-    let old = row_read rows c.args.id.block c.index-layers-id.result within in
-    known_in-set rows c.args.id.block c.hold.new.self within
-    (ap (λ (r : Row). r.first) c.hold.ensures.row ∙ ap (λ (r : Row). r.first) old)
-    (ap (λ (r : Row). r.pieces) c.hold.ensures.row ∙ ap (λ (r : Row). r.pieces) old)
+    let layers = c.args.layers.now in
+    let within = known_within layers c.args.id c.requires.known in
+    known_in-set layers c.args.id.serial c.hold.new.self within
+    (ap (λ (r : LayerModel). r.pieces) c.hold.ensures.layer
+    ∙ ap (λ (r : LayerModel). r.pieces) (layer_read layers c.args.id.serial c.index-layers-id.result within))
 
 pub returns-clause-holds : goal.returns-clause-holds
 returns-clause-holds c =
-    let rows = c.args.layers.now in
-    let within = known_within rows c.args.id c.requires.known in
-    holds_in-more rows c.args.id c.hold.new.self (get_or rows c.args.id.block c.index-layers-id.result) within
-    (row_read rows c.args.id.block c.index-layers-id.result within) c.hold.ensures.there c.hold.ensures.row
+    let layers = c.args.layers.now in
+    let within = known_within layers c.args.id c.requires.known in
+    holds_in-more layers c.args.id c.hold.new.self (get_or layers c.args.id.serial c.index-layers-id.result) within
+    (layer_read layers c.args.id.serial c.index-layers-id.result within) c.hold.ensures.there c.hold.ensures.layer

@@ -1,22 +1,10 @@
-use Rattle.std.proofs.Common.{◌<◌, ◌-◌, length, get_or, arith}
+use Rattle.std.proofs.Common.{ap, sym, ◌∙◌, List, ℕ, Option}
 use Rattle.cd_keep.specs.declared.keep_id.KeepId.{KeepId}
-use Rattle.cd_keep.proofs.RowLemmas.{known_in-pushed, holds_in-pushed, row_read}
+use Rattle.cd_keep.specs.LayerModel.{known_in}
 use Rattle.cd_keep.proofs.layers.keep.Goals as goal
 
-pub returns-clause-known : goal.returns-clause-known
-returns-clause-known c =
-    let rows = c.args.layers.now in
-    let last = length rows - 1 in
-    let within : last < length rows = omega arith in
-    let id : KeepId = record { block = last; serial = c.in_ok-serial.serial } in
-    known_in-pushed rows id c.args.piece c.push.new.self (get_or rows last c.index-layers-last.result) within
-    (row_read rows last c.index-layers-last.result within) c.in_ok-serial.ensures.serial c.in_ok-serial.ensures.row
-
-pub returns-clause-holds : goal.returns-clause-holds
-returns-clause-holds c =
-    let rows = c.args.layers.now in
-    let last = length rows - 1 in
-    let within : last < length rows = omega arith in
-    let id : KeepId = record { block = last; serial = c.in_ok-serial.serial } in
-    holds_in-pushed rows id c.args.piece c.push.new.self (get_or rows last c.index-layers-last.result) within
-    (row_read rows last c.index-layers-last.result within) c.in_ok-serial.ensures.serial c.in_ok-serial.ensures.even c.in_ok-serial.ensures.row
+pub returns-clause-new : goal.returns-clause-new
+returns-clause-new c =
+    ap (λ (known : KeepId → Option (List ℕ)). known c.in_ok-id.id)
+    (sym c.in_ok-open_last.ensures.known ∙ ap known_in (sym c.as_mut_slice.ensures.value))
+    ∙ c.in_ok-id.ensures.new

@@ -1,6 +1,6 @@
 use Rattle.std.proofs.Common.{ap, ◌∙◌}
-use Rattle.cd_keep.specs.Rows.{known_in, holds_in, held_in}
-use Rattle.cd_keep.proofs.RowLemmas.{known_in-shut, holds_in-shut, held_in-shut, known_in-unheld, holds_in-unheld, held_in-unheld}
+use Rattle.cd_keep.specs.LayerModel.{known_in, holds_in, held_in}
+use Rattle.cd_keep.proofs.LayerLemmas.{known_in-shut, holds_in-shut, held_in-shut, known_in-unheld, holds_in-unheld, held_in-unheld}
 use Rattle.cd_keep.proofs.layers.unheld_copy.Goals as goal
 
 pub returns-in_err-theirs-clause-known : goal.returns-in_err-theirs-clause-known

@@ -6,10 +6,10 @@ use Rattle.cd_kernel.proofs.columns.column_word.Goals as goal
 
 pub row_product-requires-clause-here : goal.row_product-requires-clause-here
 row_product-requires-clause-here g c κs within =
-    let P : Op → Type 0 = λ op. All (IsHere (g.F.Field.state c.args.field.now)) (op_reads op) in
+    let P : Op → Type 0 = λ op. All (IsHere (g.F.Field.model c.args.field.now)) (op_reads op) in
     subst P c.in-Spmv.is c.requires.here
 
 pub returns-in-Dot : goal.returns-in-Dot
 returns-in-Dot g c =
     c.sum_of_products.ensures
-    ∙ sym (ap (λ (op : Op). column op (g.F.Field.state c.args.field.now).words c.args.i) c.in-Dot.is)
+    ∙ sym (ap (λ (op : Op). column op (g.F.Field.model c.args.field.now).words c.args.i) c.in-Dot.is)

@@ -6,7 +6,7 @@ use Rattle.cd_kernel.proofs.columns.row_product.Goals as goal
 
 pub loop-p-init : goal.loop-p-init
 loop-p-init g c =
-    let w : Words = (g.F.Field.state c.args.field.now).words in
+    let w : Words = (g.F.Field.model c.args.field.now).words in
     let start : c.cut-start.result ≡ min (nth_word w c.args.s c.args.i) (length_of c.args.v) =
     c.cut-start.ensures ∙ ap (λ k. min k (length_of c.args.v)) c.read_nth.ensures in
     record {
@@ -16,7 +16,7 @@ loop-p-init g c =
 
 pub loop-p-preserved : goal.loop-p-preserved
 loop-p-preserved g c =
-    let w : Words = (g.F.Field.state c.args.field.now).words in
+    let w : Words = (g.F.Field.model c.args.field.now).words in
     let start : c.cut-start.result ≡ min (nth_word w c.args.s c.args.i) (length_of c.args.v) =
     c.cut-start.ensures ∙ ap (λ k. min k (length_of c.args.v)) c.read_nth.ensures in
     let end : c.cut-end.result ≡ min (nth_word w c.args.s (c.args.i + 1)) (length_of c.args.v) =
@@ -30,7 +30,7 @@ loop-p-preserved g c =
 
 pub returns : goal.returns
 returns g c =
-    let w : Words = (g.F.Field.state c.args.field.now).words in
+    let w : Words = (g.F.Field.model c.args.field.now).words in
     let end : c.cut-end.result ≡ min (nth_word w c.args.s (c.args.i + 1)) (length_of c.args.v) =
     c.cut-end.ensures ∙ ap (λ k. min k (length_of c.args.v)) c.read_nth-2.ensures in
     row_done w c.args.s c.args.c c.args.v c.args.x c.args.i c.loop-p.p c.cut-end.result (length_of c.args.v) c.loop-p.sum

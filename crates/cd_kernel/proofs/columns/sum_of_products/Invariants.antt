@@ -6,4 +6,4 @@ use Rattle.cd_kernel.proofs.columns.sum_of_products.Given as goal
 abbrev pub invariant-loop-j : goal.invariant-loop-j
 invariant-loop-j g l =
     l.sum
-    ≡ word_of (total (λ j. nth_word (g.F.Field.state l.field).words l.x j * nth_word (g.F.Field.state l.field).words l.z j) l.j)
+    ≡ word_of (total (λ j. nth_word (g.F.Field.model l.field).words l.x j * nth_word (g.F.Field.model l.field).words l.z j) l.j)

@@ -7,7 +7,7 @@ use Rattle.cd_kernel.proofs.operations.scan.Given as goal
 
 abbrev pub invariant-loop-i : goal.invariant-loop-i
 invariant-loop-i g l = record {
-  sum : l.sum ≡ word_of (total (nth_word (g.F.Field.state l.fn.field).words l.x) l.i);
-  written : g.F.Field.state l.field
-      ≡ record (g.F.Field.state l.fn.field) { words = words_to (Scan l.d l.x) (g.F.Field.state l.fn.field).words l.i };
+  sum : l.sum ≡ word_of (total (nth_word (g.F.Field.model l.fn.field).words l.x) l.i);
+  written : g.F.Field.model l.field
+      ≡ record (g.F.Field.model l.fn.field) { words = words_to (Scan l.d l.x) (g.F.Field.model l.fn.field).words l.i };
 }

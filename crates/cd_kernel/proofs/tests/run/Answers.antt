@@ -6,4 +6,4 @@ use Rattle.cd_kernel.proofs.tests.run.Goals as goal
 pub apply-requires-clause-present : goal.apply-requires-clause-present
 apply-requires-clause-present g c κs within =
     let fits : IsTrue c.fits.result = search rules in
-    on_board (g.F.Field.state c.args.field.now) (op_writes c.args.op ∷ op_reads c.args.op) c.requires (c.fits.ensures.places fits)
+    on_board (g.F.Field.model c.args.field.now) (op_writes c.args.op ∷ op_reads c.args.op) c.requires (c.fits.ensures.places fits)

@@ -1,7 +1,7 @@
 use Rattle.std.proofs.Common.{rules, ◌≡◌, ◌<◌, length, List, subst, sym, ap, ◌∙◌, ◌++◌, ◌∷◌, [], ℕ, OnOk, codes, string_bytes, arith}
 use Rattle.cd_tree.specs.declared.domain.NodeId.{NodeId}
 use Rattle.cd_tree.specs.declared.domain.Item.{Item}
-use Rattle.cd_tree.specs.Outlines.{FitsItems}
+use Rattle.cd_tree.specs.TreeModel.{FitsItems}
 use Rattle.cd_tree.specs.Domains.{node_of, members_by}
 use Rattle.cd_print.specs.Canonical.{Statement, lines, end_statement, member_statements}
 use Rattle.cd_print.proofs.PrintLemmas.{pushed, lines_between}

@@ -2,7 +2,7 @@ use Rattle.std.proofs.Common.{rules, ◌≡◌, ◌<◌, ◌^◌, ◌+◌, ◌-�
 use Rattle.std.proofs.lemmas.Option.{slice_get_within}
 use Rattle.cd_tree.specs.Domains.{body_by, members_by, node_of}
 use Rattle.cd_tree.specs.KindSets.{no_kinds}
-use Rattle.cd_tree.specs.Outlines.{FitsItems, NamesChildren}
+use Rattle.cd_tree.specs.TreeModel.{FitsItems, NamesChildren}
 use Rattle.cd_tree.specs.Reading.{read_node, read_try, read_points, read_members}
 use Rattle.cd_tree.specs.Record.{case_of}
 use Rattle.cd_reading.specs.Ends.{try_end, node_end, group_end}
@@ -10,7 +10,7 @@ use Rattle.cd_reading.specs.Steps.{try_of}
 use Rattle.cd_reading.specs.Walk.{the_node, listed, AreCounts, item_counts}
 use Rattle.cd_reading.proofs.Quiet.{try_failed}
 use Rattle.cd_reading.proofs.Walking.{tree_fits, kinds_are, point_over, point_on, item_few, item_over, item_on, end_over, end_on, member_here, member_few, member_read, members_end}
-use Rattle.cd_reading.proofs.Following.{halting_small, group_named, group_few, item_fits, points_next, points_none, no_id, members_next, members_none, tries_begin, try_few, begin_few, try_read, try_counts}
+use Rattle.cd_reading.proofs.Following.{group_named, group_few, item_fits, points_next, points_none, no_id, members_next, members_none, tries_begin, try_few, begin_few, try_read, try_counts}
 use Rattle.cd_reading.proofs.walk.+reading.Goals as goal
 
 -- ---- an item
@@ -77,12 +77,6 @@ read_all_members-returns-clause-reads t c =
     c.loop-id-test.false c.loop-id.invariant.0)
 
 -- ---- points
-
-pub read_all_points-arrive-requires : goal.read_all_points-arrive-requires
-read_all_points-arrive-requires t c = halting_small c.args.case.now.tree.now.kinds c.args.case.now.halts c.requires.case.halts
-
-pub read_all_points-arrive-requires-2 : goal.read_all_points-arrive-requires-2
-read_all_points-arrive-requires-2 t c = halting_small c.args.case.now.tree.now.kinds c.args.case.now.halts c.requires.case.halts
 
 pub read_all_points-returns-in-Over-clause-reads : goal.read_all_points-returns-in-Over-clause-reads
 read_all_points-returns-in-Over-clause-reads t c =

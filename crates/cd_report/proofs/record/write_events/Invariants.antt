@@ -5,8 +5,8 @@ use Rattle.cd_report.proofs.record.write_events.Given as goal
 
 abbrev pub invariant-loop-alloc : goal.invariant-loop-alloc
 invariant-loop-alloc g l =
-    WroteSome (g.K.Sink.holds l.fn.sink) (g.K.Sink.holds l.sink) (g.K.Sink.faults l.fn.sink) (g.K.Sink.faults l.sink)
-    (events_text l.kinds l.regions (drop l.from (g.F.Field.state l.machine).events)) (events_text l.kinds l.regions (g.F.Field.state l.machine).events)
+    WroteSome (g.K.Sink.model l.fn.sink) (g.K.Sink.model l.sink)
+    (events_text l.kinds l.regions (drop l.from (g.F.Field.model l.machine).events)) (events_text l.kinds l.regions (g.F.Field.model l.machine).events)
 
 abbrev pub decreases-loop-alloc : goal.decreases-loop-alloc
-decreases-loop-alloc g l = length (g.F.Field.state l.machine).events - l.from
+decreases-loop-alloc g l = length (g.F.Field.model l.machine).events - l.from

@@ -22,3 +22,4 @@ returns c =
     all_accepted c.kinds_are_declared_on_the_path.ensures c.args.tree.now c.count.ensures.sound c.args.faults.now c.loop-k.k c.loop-k.script
     c.loop-k.invariant
     (subst (λ (raws : List RawFault). length raws ≤ c.loop-k.k) c.items-raw-items.ensures.value c.loop-k-test.false)
+    c.items-raw-items.ensures.few

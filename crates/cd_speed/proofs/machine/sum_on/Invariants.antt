@@ -2,4 +2,4 @@ use Rattle.cd_speed.specs.Timed.{HasRegions}
 use Rattle.cd_speed.proofs.machine.sum_on.Given as goal
 
 abbrev pub invariant-loop-turn : goal.invariant-loop-turn
-invariant-loop-turn g l = HasRegions (g.F.Field.state l.field)
+invariant-loop-turn g l = HasRegions (g.F.Field.model l.field)

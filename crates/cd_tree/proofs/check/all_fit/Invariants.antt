@@ -1,5 +1,5 @@
 use Rattle.std.proofs.Common.{◌↔◌, drop}
-use Rattle.cd_tree.specs.Outlines.{EachFits}
+use Rattle.cd_tree.specs.TreeModel.{EachFits}
 use Rattle.cd_tree.proofs.check.all_fit.Given as goal
 
 abbrev pub invariant-loop-at : goal.invariant-loop-at

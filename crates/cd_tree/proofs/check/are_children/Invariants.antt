@@ -1,5 +1,5 @@
 use Rattle.std.proofs.Common.{◌↔◌, drop}
-use Rattle.cd_tree.specs.Outlines.{NamesChildren}
+use Rattle.cd_tree.specs.TreeModel.{NamesChildren}
 use Rattle.cd_tree.proofs.check.are_children.Given as goal
 
 abbrev pub invariant-loop-id : goal.invariant-loop-id

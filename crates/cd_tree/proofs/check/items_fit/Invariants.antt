@@ -1,5 +1,5 @@
 use Rattle.std.proofs.Common.{◌↔◌, drop}
-use Rattle.cd_tree.specs.Outlines.{FitsItems}
+use Rattle.cd_tree.specs.TreeModel.{FitsItems}
 use Rattle.cd_tree.proofs.check.items_fit.Given as goal
 
 abbrev pub invariant-loop-item : goal.invariant-loop-item

@@ -9,17 +9,14 @@ invariant_of-self c =
     let rs = c.self.inside.ranges.items in
     let ss = c.other.inside.ranges.items in
     let new = c.in_ok-ranges.ensures ∙ both_views _ rs _ ss c.deref.ensures.value c.deref-2.ensures.value in
-    let few = length-united rs ss c.in_ok-ranges.ranges.items new in (
-      omega (arith, few, ap length c.self.view_is, ap length c.other.view_is, c.requires.room),
-      IsOrdered-united rs ss c.in_ok-ranges.ranges.items new c.self.invariant.1 c.other.invariant.1,
-    )
+    IsOrdered-united rs ss c.in_ok-ranges.ranges.items new c.self.invariant c.other.invariant
 
 pub returns-clause-places : goal.returns-clause-places
 returns-clause-places c q =
     let rs = c.self.inside.ranges.items in
     let ss = c.other.inside.ranges.items in
     let new = c.in_ok-ranges.ensures ∙ both_views _ rs _ ss c.deref.ensures.value c.deref-2.ensures.value in
-    in_ranges-united rs ss c.in_ok-ranges.ranges.items q new c.self.invariant.1 c.other.invariant.1
+    in_ranges-united rs ss c.in_ok-ranges.ranges.items q new c.self.invariant c.other.invariant
     ∙ ap (λ (l : List Range). in_ranges l q || in_ranges ss q) c.self.view_is ∙ ap (λ (l : List Range). in_ranges c.args.self.now q || in_ranges l q) c.other.view_is
 
 pub returns-clause-few : goal.returns-clause-few

@@ -1,12 +1,8 @@
-use Rattle.std.proofs.Common.{◌≡◌, ◌≤◌, arith}
+use Rattle.std.proofs.Common.{◌≡◌}
 use Rattle.std.specs.Int.Bits.{or_zero_r}
-use Rattle.std.proofs.lemmas.Bool.Decides.{nat_tests}
-use Rattle.cd_tree.specs.declared.kinds.Kind.{Kind}
 use Rattle.cd_tree.specs.KindSets.{only_kind}
+use Rattle.cd_tree.proofs.KindLemmas.{no_such_kind}
 use Rattle.cd_tree.proofs.kinds.Kinds.with.Goals as goal
-
-no_such_kind : (kind : Kind) → 16 ≤ kind.0 → only_kind kind ≡ 0
-no_such_kind kind high = grind (arith, nat_tests)
 
 pub returns-else-kind-lt16 : goal.returns-else-kind-lt16
 returns-else-kind-lt16 c =

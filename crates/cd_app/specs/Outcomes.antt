@@ -1,0 +1,111 @@
+-- What comes of a command: a line for each deed and each input; and the status and the text of each outcome.
+use Rattle.std.specs.Prelude.{◌≡◌, ◌⊎◌, ℕ, ◌<◌, ◌≤◌, Bool, List, length, Option, None, Some, Result, Ok, Err}
+use Rattle.cd_base.specs.Ends.{SourceModel, ReadAll}
+use Rattle.cd_base.specs.declared.transfer.ReadStop.TheVariants as stop
+use Rattle.cd_tree.specs.declared.document.Document.{Document}
+use Rattle.cd_tree.specs.declared.event.Cause.{Cause}
+use Rattle.cd_tree.specs.declared.refusal.Refusal.{Refusal}
+use Rattle.cd_check.specs.Checking.{FirstRefusalOf, Passes}
+use Rattle.cd_parse.specs.Reading.{parse}
+use Rattle.cd_reading.specs.Through.{cause_in}
+use Rattle.cd_report.specs.Texts.{refusal_line, usage_line, fault_line, not_built_line}
+use Rattle.cd_app.specs.declared.status.Status.{Status}
+use Rattle.cd_app.specs.declared.status.Status.TheVariants.{Done, Exhausted, Usage, Refused, ReadFault, NotBuilt}
+use Rattle.cd_app.specs.Running.{IsBuilt, report_of}
+use Rattle.cd_app.specs.Deeds.{Intake, Accepted, Deed, makes, says, runs}
+
+-- ---- inputs
+
+-- an input, as far as a limit lets it be taken: all of its bytes; or that there are more; or that it could not be read
+pub data Input : Type 0 where
+  whole : List ℕ → Input
+  too_much : Input
+  unread : Input
+
+-- a source gave this input
+abbrev pub Gave : SourceModel → SourceModel → ℕ → Input → Type 0
+Gave old new limit (whole bytes) = ReadAll old new limit (Ok bytes)
+Gave old new limit too_much = ReadAll old new limit (Err stop.TooLong)
+Gave old new limit unread = ReadAll old new limit (Err stop.Failed)
+
+-- these bytes are this input
+abbrev pub AreInput : List ℕ → ℕ → Input → Type 0
+AreInput bytes limit (whole taken) = (taken ≡ bytes) × (length bytes ≤ limit)
+AreInput bytes limit too_much = limit < length bytes
+AreInput bytes limit unread = ⊥
+
+-- bytes are refused for this: they are no document, or this is the first refusal of the document that they are
+abbrev pub RefusesBytes : Intake → List ℕ → Option Document → Refusal → Type 0
+RefusesBytes intake bytes None refusal = parse (intake.document_in bytes) ≡ Err refusal
+RefusesBytes intake bytes (Some document) refusal =
+    (parse (intake.document_in bytes) ≡ Ok document) × FirstRefusalOf intake.questions document (Some refusal)
+
+-- bytes are accepted: they are a document, no question refuses it, and it passes with this script
+pub record AcceptsBytes (intake : Intake) (input : Accepted) : Type 0 where
+  pub read : parse (intake.document_in input.bytes) ≡ Ok input.document
+  pub checked : FirstRefusalOf intake.questions input.document None
+  pub passes : Passes input.document input.script
+
+-- ---- outcomes
+
+-- what a call comes to where memory suffices: the words give no command; a text that needs no input; the input was not
+-- read; it is refused, and its document where it is one; something is said of it; the engine cannot run it as yet; it ran
+pub data Outcome : Type 0 where
+  no_command : Outcome
+  made : List ℕ → Outcome
+  not_read : Outcome
+  refused : Option Document → Refusal → Outcome
+  said : List ℕ → Outcome
+  not_built : Outcome
+  ran : Bool → Accepted → Outcome
+
+-- what comes of a document that is to run
+abbrev pub Runs : Bool → Accepted → Outcome → Type 0
+Runs with_record input outcome =
+    (IsBuilt input.document.tree × (outcome ≡ ran with_record input))
+    ⊎ ((IsBuilt input.document.tree → ⊥) × (outcome ≡ not_built))
+
+-- what comes of bytes that were all taken: they are refused, or they are accepted and `Next` says what comes
+abbrev pub Judged : Intake → List ℕ → (Accepted → Outcome → Type 0) → Outcome → Type 0
+Judged intake bytes Next outcome =
+    ((document : Option Document) × (refusal : Refusal) × RefusesBytes intake bytes document refusal × (outcome ≡ refused document refusal))
+    ⊎ ((input : Accepted) × (input.bytes ≡ bytes) × AcceptsBytes intake input × Next input outcome)
+
+-- what comes of an input
+abbrev pub ComesOfInput : Intake → (Accepted → Outcome → Type 0) → Input → Outcome → Type 0
+ComesOfInput intake Next (whole bytes) outcome = Judged intake bytes Next outcome
+ComesOfInput intake Next too_much outcome = outcome ≡ refused None intake.beyond
+ComesOfInput intake Next unread outcome = outcome ≡ not_read
+
+-- what comes of what the words ask for
+abbrev pub ComesOf : (ℕ → Input → Type 0) → Option Deed → Outcome → Type 0
+ComesOf Gives None outcome = outcome ≡ no_command
+ComesOf Gives (Some (makes text)) outcome = outcome ≡ made text
+ComesOf Gives (Some (says intake text_of)) outcome =
+    (input : Input) × Gives intake.limit input × ComesOfInput intake (λ accepted end. end ≡ said (text_of accepted)) input outcome
+ComesOf Gives (Some (runs intake with_record)) outcome =
+    (input : Input) × Gives intake.limit input × ComesOfInput intake (Runs with_record) input outcome
+
+-- ---- their statuses and texts
+
+abbrev pub status_by : Option Cause → Status
+status_by None = Done
+status_by (Some cause) = Exhausted cause
+
+abbrev pub status_of : Outcome → Status
+status_of no_command = Usage
+status_of (made text) = Done
+status_of not_read = ReadFault
+status_of (refused document refusal) = Refused refusal
+status_of (said text) = Done
+status_of not_built = NotBuilt
+status_of (ran with_record input) = status_by (cause_in input.document.tree input.script)
+
+abbrev pub text_of : Outcome → List ℕ
+text_of no_command = usage_line
+text_of (made text) = text
+text_of not_read = fault_line
+text_of (refused document refusal) = refusal_line document refusal
+text_of (said text) = text
+text_of not_built = not_built_line
+text_of (ran with_record input) = report_of with_record input.document input.script

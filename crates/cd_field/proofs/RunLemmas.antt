@@ -1,0 +1,145 @@
+-- Runs of words: read one by one into a list, and laid over a range one by one.
+use Rattle.std.proofs.Common.{◌≡◌, ℕ, ◌+◌, ◌-◌, ◌<◌, ◌≤◌, max, ◌&&◌, ◌||◌, nat_lt, nat_le, ◌==◌, Bool, true, false, if◌then◌else◌, List, [], ◌∷◌, length, map, set, get_or, Option, Some, IsSome, unwrap_or, refl, ap, ap₂, sym, subst, ◌∙◌, arith, inl, inr}
+use Rattle.std.specs.List.{range_with_len}
+use Rattle.std.proofs.lemmas.Bool.{cases_lt}
+use Rattle.std.proofs.lemmas.Bool.Decides.{nat_tests}
+use Rattle.std.proofs.lemmas.List.{ext_get_or, get_or-set_same, get_or-set_other}
+use Rattle.std.proofs.lemmas.List.FromFn.{length-map-range_with_len, get_or-map-range_with_len}
+use Rattle.std.proofs.Math.Path.{fun_ext}
+use Rattle.cd_base.specs.declared.place.Place.{Place}
+use Rattle.cd_base.specs.declared.place.Range.{Range}
+use Rattle.cd_base.specs.Words.{Words, PlaceSet, word_at, same_place, in_range, in_ranges}
+use Rattle.cd_tree.specs.Operations.{length_of, nth_word}
+use Rattle.cd_field.specs.FieldModel.{FieldModel, IsPresent, ArePresent, wrote, refilled_word, laid, words_in, wrote_run, refilled_run}
+use Rattle.cd_field.proofs.FlatLemmas.{by_test, chosen, other}
+use Rattle.cd_field.proofs.PlaceLemmas.{choice_at, choice_or, range_none}
+
+-- ---- reading
+
+-- a list that has each word of a range is the list of its words
+pub read_all : (w : Words) (r : Range) (xs : List ℕ) → length xs ≡ length_of r
+    → ((j : ℕ) → j < length_of r → get_or xs j 0 ≡ nth_word w r j) → xs ≡ words_in w r
+read_all w r xs long each =
+    let f : ℕ → ℕ = λ i. word_at w (record { region = r.region; index = i }) in
+    let n : ℕ = length_of r in
+    let same : length xs ≡ length (map f (range_with_len r.low n)) = long ∙ sym (length-map-range_with_len f r.low n) in
+    ext_get_or 0 xs (map f (range_with_len r.low n)) same
+    (λ i short. let inside : i < n = omega (arith, long) in
+    each i inside ∙ sym (get_or-map-range_with_len f r.low n i (r.low + i) 0 inside refl))
+
+-- one word more is read
+pub read_more : (w : Words) (r : Range) (xs : List ℕ) (i word : ℕ) → r.low ≤ i → i - r.low < length xs
+    → w (record { region = r.region; index = i }) ≡ Some word
+    → ((j : ℕ) → j < i - r.low → get_or xs j 0 ≡ nth_word w r j)
+    → (j : ℕ) → j < (i + 1) - r.low → get_or (set xs (i - r.low) word) j 0 ≡ nth_word w r j
+read_more w r xs i word low short here each j before =
+    elim (cases_lt j (i - r.low)) [
+      | inl l ↦ get_or-set_other xs (i - r.low) j word 0 (λ e. omega arith) ∙ each j l
+      | inr l ↦
+          let at : i - r.low ≡ j = omega arith in
+          let back : r.low + (i - r.low) ≡ i = omega arith in
+          let P : ℕ → Type 0 = λ n. get_or (set xs (i - r.low) word) n 0 ≡ nth_word w r n in
+          let read : nth_word w r (i - r.low) ≡ word =
+          ap (λ (n : ℕ). unwrap_or (w (record { region = r.region; index = n })) 0) back ∙ ap (λ (o : Option ℕ). unwrap_or o 0) here in
+          subst P at (get_or-set_same xs (i - r.low) word 0 short ∙ sym read)
+    ]
+
+-- ---- a function of places that changes over a range, one place at a time
+
+span_last : (a b i j low : ℕ) → low ≤ i
+    → ((a == b) && (nat_le low j && nat_lt j (i + 1))) ≡ (((a == b) && (nat_le low j && nat_lt j i)) || ((a == b) && (i == j)))
+span_last a b i j low h = grind (arith, nat_tests)
+
+pub span_more : {X : Type 0} (f old : Place → X) (r : Range) (i : ℕ) → r.low ≤ i → (q : Place)
+    → (if same_place (record { region = r.region; index = i }) q then f (record { region = r.region; index = i })
+    else (if in_range (record r { high = i }) q then f q else old q))
+    ≡ (if in_range (record r { high = i + 1 }) q then f q else old q)
+span_more {X} f old r i low q =
+    let p : Place = record { region = r.region; index = i } in
+    let front : Bool = in_range (record r { high = i }) q in
+    choice_at f p q (if front then f q else old q)
+    ∙ sym (choice_or front (same_place p q) (f q) (old q))
+    ∙ ap (λ (b : Bool). if b then f q else old q) (sym (span_last r.region q.region i q.index r.low low))
+
+-- up to the end of the range all is changed; an empty range changes nothing
+pub span_end : {X : Type 0} (f old : Place → X) (r : Range) (i : ℕ) → r.high ≤ i → i ≤ max r.low r.high → (q : Place)
+    → (if in_range (record r { high = i }) q then f q else old q) ≡ (if in_range r q then f q else old q)
+span_end {X} f old r i past most q =
+    elim (cases_lt r.low r.high) [
+      | inl l ↦ let e : i ≡ r.high = omega arith in ap (λ (n : ℕ). if in_range (record r { high = n }) q then f q else old q) e
+      | inr l ↦
+          let empty : i ≤ r.low = omega arith in range_none f old (record r { high = i }) empty q ∙ sym (range_none f old r l q)
+    ]
+
+-- ---- machines
+
+-- the word that a list lays over a place
+abbrev word_for : Range → List ℕ → Place → Option ℕ
+word_for r words q = Some (get_or words (q.index - r.low) 0)
+
+pub wrote_none : (m : FieldModel) (r : Range) (words : List ℕ) → m ≡ wrote_run m (record r { high = r.low }) words
+wrote_none m r words =
+    ap (λ (w : Words). record m { words = w })
+    (sym (fun_ext (range_none (word_for r words) m.words (record r { high = r.low }) (omega arith))))
+
+pub wrote_more : (m was later : FieldModel) (r : Range) (words : List ℕ) (i : ℕ) → r.low ≤ i
+    → m ≡ wrote_run was (record r { high = i }) words
+    → later ≡ wrote m (record { region = r.region; index = i }) (get_or words (i - r.low) 0)
+    → later ≡ wrote_run was (record r { high = i + 1 }) words
+wrote_more m was later r words i low is after =
+    after
+    ∙ ap (λ (v : FieldModel). wrote v (record { region = r.region; index = i }) (get_or words (i - r.low) 0)) is
+    ∙ ap (λ (w : Words). record was { words = w }) (fun_ext (span_more (word_for r words) was.words r i low))
+
+pub wrote_all : (m was : FieldModel) (r : Range) (words : List ℕ) (i : ℕ) → r.high ≤ i → i ≤ max r.low r.high
+    → m ≡ wrote_run was (record r { high = i }) words → m ≡ wrote_run was r words
+wrote_all m was r words i past most is =
+    is ∙ ap (λ (w : Words). record was { words = w }) (fun_ext (span_end (word_for r words) was.words r i past most))
+
+-- a place that has a word has one after words are laid
+laid_known : (w : Words) (r : Range) (words : List ℕ) (p : Place) → IsSome (w p) → IsSome (laid w r words p)
+laid_known w r words p some =
+    let P : Option ℕ → Type 0 = λ o. IsSome o in
+    by_test (in_range r p)
+    (λ t. subst P (sym (chosen (in_range r p) (word_for r words p) (w p) t)) refl)
+    (λ f. subst P (sym (other (in_range r p) (word_for r words p) (w p) f)) some)
+
+-- each place of the range is present while its words are written
+pub wrote_present : (m was : FieldModel) (r front : Range) (words : List ℕ) → m ≡ wrote_run was front words
+    → ArePresent was (r ∷ []) → ArePresent m (r ∷ [])
+wrote_present m was r front words is present p h =
+    let P : FieldModel → Type 0 = λ v. IsPresent v p in
+    let there : IsPresent was p = present p h in
+    subst P (sym is) (record { known = laid_known was.words front words p there.known; here = there.here })
+
+pub refilled_none : (m : FieldModel) (r : Range) (words : List ℕ) → m ≡ refilled_run m (record r { high = r.low }) words
+refilled_none m r words =
+    ap₂ (λ (w : Words) (l : PlaceSet). record m { words = w; lost = l })
+    (sym (fun_ext (range_none (word_for r words) m.words (record r { high = r.low }) (omega arith))))
+    (sym (fun_ext (range_none (λ q. false) m.lost (record r { high = r.low }) (omega arith))))
+
+pub refilled_more : (m was later : FieldModel) (r : Range) (words : List ℕ) (i : ℕ) → r.low ≤ i
+    → m ≡ refilled_run was (record r { high = i }) words
+    → later ≡ refilled_word m (record { region = r.region; index = i }) (get_or words (i - r.low) 0)
+    → later ≡ refilled_run was (record r { high = i + 1 }) words
+refilled_more m was later r words i low is after =
+    after
+    ∙ ap (λ (v : FieldModel). refilled_word v (record { region = r.region; index = i }) (get_or words (i - r.low) 0)) is
+    ∙ ap₂ (λ (w : Words) (l : PlaceSet). record was { words = w; lost = l })
+    (fun_ext (span_more (word_for r words) was.words r i low))
+    (fun_ext (span_more (λ q. false) was.lost r i low))
+
+pub refilled_all : (m was : FieldModel) (r : Range) (words : List ℕ) (i : ℕ) → r.high ≤ i → i ≤ max r.low r.high
+    → m ≡ refilled_run was (record r { high = i }) words → m ≡ refilled_run was r words
+refilled_all m was r words i past most is =
+    is
+    ∙ ap₂ (λ (w : Words) (l : PlaceSet). record was { words = w; lost = l })
+    (fun_ext (span_end (word_for r words) was.words r i past most))
+    (fun_ext (span_end (λ q. false) was.lost r i past most))
+
+-- each place of the range has a word while words are put back
+pub refilled_known : (m was : FieldModel) (r front : Range) (words : List ℕ) → m ≡ refilled_run was front words
+    → ((p : Place) → in_range r p ≡ true → IsSome (was.words p)) → (p : Place) → in_range r p ≡ true → IsSome (m.words p)
+refilled_known m was r front words is known p h =
+    let P : FieldModel → Type 0 = λ v. IsSome (v.words p) in
+    subst P (sym is) (laid_known was.words front words p (known p h))

@@ -1,0 +1,129 @@
+-- What a meaning sees and what it changes: it sees the words that are read, and changes those that are written.
+use Rattle.std.specs.Prelude.{◌≡◌, ℕ, suc, ◌+◌, ◌<◌, ◌||◌, true, false}
+use Rattle.cd_base.specs.declared.place.Place.{Place}
+use Rattle.cd_base.specs.declared.place.Range.{Range}
+use Rattle.cd_base.specs.Words.{Words, PlaceSet, in_range, in_ranges}
+use Rattle.cd_tree.specs.declared.operation.Op.{Op}
+use Rattle.cd_tree.specs.declared.operation.Op.TheVariants.{Fill, Copy, Add, Sub, Mul, Axpy, Scan, Sum, Dot, Max, Stencil, Spmv}
+use Rattle.cd_tree.specs.Operations.{op_reads, op_writes, op_meaning, column, length_of, nth_word, FitsShape}
+use Rattle.cd_tree.specs.Domains.{Node, Body, stop, run, group, domain_of, body_of, root_of, Throughout, ThroughoutBody}
+use Rattle.cd_tree.specs.Meaning.{in_entries, node_reads, node_writes, node_meaning, body_reads, body_writes, body_meaning, IsCovered, IsDisjoint, LieIn}
+use Rattle.cd_tree.specs.TreeModel.{TreeModel, IsTree}
+use Rattle.cd_tree.specs.Laws.{OfEach}
+
+-- words that agree in these places
+abbrev pub SameWords : PlaceSet → Words → Words → Type 0
+SameWords places v w = (p : Place) → places p ≡ true → v p ≡ w p
+
+-- the places of either set
+abbrev pub in_either : PlaceSet → PlaceSet → PlaceSet
+in_either first second p = first p || second p
+
+-- the i-th word of a range is the same
+abbrev pub SameNth : Range → Words → Words → ℕ → Type 0
+SameNth r v w i = nth_word v r i ≡ nth_word w r i
+
+-- the first n words of a range are the same
+abbrev pub SameFirst : Range → ℕ → Words → Words → Type 0
+SameFirst r n v w = (j : ℕ) → j < n → SameNth r v w j
+
+-- the words from which an operation computes word i of its destination are the same
+abbrev pub SameSources : Op → Words → Words → ℕ → Type 0
+SameSources (Fill d k) v w i = Unit {0}
+SameSources (Copy d x) v w i = SameNth x v w i
+SameSources (Add d x z) v w i = SameNth x v w i × SameNth z v w i
+SameSources (Sub d x z) v w i = SameNth x v w i × SameNth z v w i
+SameSources (Mul d x z) v w i = SameNth x v w i × SameNth z v w i
+SameSources (Axpy d k x) v w i = SameNth d v w i × SameNth x v w i
+SameSources (Scan d x) v w i = SameFirst x (suc i) v w
+SameSources (Sum d x) v w i = SameFirst x (length_of x) v w
+SameSources (Dot d x z) v w i = SameFirst x (length_of x) v w × SameFirst z (length_of x) v w
+SameSources (Max d x) v w i = SameFirst x (length_of x) v w
+SameSources (Stencil d a b c x) v w i = SameNth x v w i × SameNth x v w (i + 1) × SameNth x v w (i + 2)
+SameSources (Spmv d s c values x) v w i =
+    SameNth s v w i × SameNth s v w (i + 1)
+    × SameFirst c (length_of values) v w × SameFirst values (length_of values) v w × SameFirst x (length_of x) v w
+
+-- word i of the destination comes from these words alone
+abbrev pub ColumnIsLocal : Type 0
+ColumnIsLocal = (op : Op) (v w : Words) (i : ℕ) → SameSources op v w i → column op v i ≡ column op w i
+
+-- what an operation writes comes from its sources alone; where its shape is wrong it may read past their ends
+abbrev pub OperationIsLocal : Type 0
+OperationIsLocal =
+    (op : Op) (v w : Words) → FitsShape op → SameWords (in_ranges (op_reads op)) v w
+    → SameWords (in_range (op_writes op)) (op_meaning op v) (op_meaning op w)
+
+-- an operation changes no word but those of its destination
+abbrev pub OperationLeavesOthers : Type 0
+OperationLeavesOthers = (op : Op) (w : Words) (p : Place) → in_range (op_writes op) p ≡ false → op_meaning op w p ≡ w p
+
+-- words that agree in places that hold the sources agree, after the operation, there and in the destination
+abbrev pub OperationKeepsAgreement : Type 0
+OperationKeepsAgreement =
+    (op : Op) (places : PlaceSet) (v w : Words) → FitsShape op → LieIn (in_ranges (op_reads op)) places → SameWords places v w
+    → SameWords (in_either places (in_range (op_writes op))) (op_meaning op v) (op_meaning op w)
+
+-- the operations of a body itself have the right shape
+abbrev pub ShapesFit : Body → Type 0
+ShapesFit stop = Unit {0}
+ShapesFit (run op rest) = FitsShape op × ShapesFit rest
+ShapesFit (group members rest) = ShapesFit rest
+
+abbrev pub OwnShapesFit : Node → Type 0
+OwnShapesFit d = ShapesFit (body_of d)
+
+-- the operations of a domain and of all domains below it have the right shape
+abbrev pub AllShapesFit : Node → Type 0
+AllShapesFit d = Throughout OwnShapesFit d
+
+-- the same of a body: its own operations and those of the domains below
+abbrev pub BodyShapesFit : Body → Type 0
+BodyShapesFit body = ShapesFit body × ThroughoutBody OwnShapesFit body
+
+-- in a program all shapes are right
+abbrev pub ShapesFitInPrograms : Type 0
+ShapesFitInPrograms = (tree : TreeModel) → IsTree tree → OfEach tree AllShapesFit
+
+-- what is covered or disjoint as a whole is so in each domain
+abbrev pub CoveredInPrograms : Type 0
+CoveredInPrograms = (tree : TreeModel) → IsTree tree → IsCovered (root_of tree.domains) → OfEach tree IsCovered
+
+abbrev pub DisjointInPrograms : Type 0
+DisjointInPrograms = (tree : TreeModel) → IsTree tree → IsDisjoint (root_of tree.domains) → OfEach tree IsDisjoint
+
+-- what a domain writes comes from what it reads alone
+abbrev pub MeaningIsLocal : Type 0
+MeaningIsLocal =
+    (d : Node) (v w : Words) → AllShapesFit d → SameWords (node_reads d) v w
+    → SameWords (node_writes d) (node_meaning d v) (node_meaning d w)
+
+-- a domain changes no word but those that it writes
+abbrev pub OthersStay : Type 0
+OthersStay = (d : Node) (w : Words) (p : Place) → node_writes d p ≡ false → node_meaning d w p ≡ w p
+
+-- words that agree in places that hold what a domain reads agree, after it, there and where it writes
+abbrev pub AgreementStays : Type 0
+AgreementStays =
+    (d : Node) (places : PlaceSet) (v w : Words) → AllShapesFit d → LieIn (node_reads d) places → SameWords places v w
+    → SameWords (in_either places (node_writes d)) (node_meaning d v) (node_meaning d w)
+
+-- words that agree in the entries of a covered domain agree there after it
+abbrev pub AgreementInEntries : Type 0
+AgreementInEntries =
+    (d : Node) (v w : Words) → AllShapesFit d → IsCovered d → SameWords (in_entries (domain_of d).entries) v w
+    → SameWords (in_entries (domain_of d).entries) (node_meaning d v) (node_meaning d w)
+
+-- the same of a body, which has no entries of its own
+abbrev pub BodyIsLocal : Type 0
+BodyIsLocal =
+    (body : Body) (v w : Words) → BodyShapesFit body → SameWords (body_reads body) v w
+    → SameWords (body_writes body) (body_meaning body v) (body_meaning body w)
+
+abbrev pub BodyLeavesOthers : Type 0
+BodyLeavesOthers = (body : Body) (w : Words) (p : Place) → body_writes body p ≡ false → body_meaning body w p ≡ w p
+
+abbrev pub BodyKeepsAgreement : Type 0
+BodyKeepsAgreement =
+    (body : Body) (places : PlaceSet) (v w : Words) → BodyShapesFit body → LieIn (body_reads body) places → SameWords places v w
+    → SameWords (in_either places (body_writes body)) (body_meaning body v) (body_meaning body w)
