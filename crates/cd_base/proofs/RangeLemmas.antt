@@ -6,22 +6,10 @@ use Rattle.cd_base.specs.declared.place.Place.{Place}
 use Rattle.cd_base.specs.declared.place.Range.{Range}
 use Rattle.cd_base.specs.Words.{PlaceSet, in_range, in_ranges}
 use Rattle.cd_base.specs.Places.{is_before, IsBeforeAll, IsOrdered, hull, with_range, stands_before, IsLeast}
+use Rattle.cd_base.proofs.BoolLemmas.{or-assoc, or-swap, and-or}
+use Rattle.cd_base.proofs.PlaceLemmas.{place-same}
 
 -- ---- tests on numbers
-
-pub or-assoc : (a b c : Bool) → ((a || b) || c) ≡ (a || (b || c))
-or-assoc true b c = refl
-or-assoc false b c = refl
-
-pub or-swap : (a b c : Bool) → (a || (b || c)) ≡ (b || (a || c))
-or-swap true true c = refl
-or-swap true false c = refl
-or-swap false true c = refl
-or-swap false false c = refl
-
-and-or : (a b c : Bool) → (a && (b || c)) ≡ ((a && b) || (a && c))
-and-or true b c = refl
-and-or false b c = refl
 
 -- two spans that overlap or touch make one span
 spans_meet : (a b c d i : ℕ) → a < b → c < d → a ≤ d → c ≤ b
@@ -238,9 +226,7 @@ IsOrdered-same (r ∷ rs) (s ∷ ss) o u same =
 pub stands_before-neither : (p q : Place) → stands_before p q ≡ false → stands_before q p ≡ false → p ≡ q
 stands_before-neither p q h k =
     let same = same_start p.region q.region p.index q.index h k in
-    let at_region : ℕ → Place = λ n. record { region = n; index = p.index } in
-    let at_index : ℕ → Place = λ n. record { region = q.region; index = n } in
-    ap at_region same.0 ∙ ap at_index same.1
+    place-same p q same.0 same.1
 
 -- a set has one least place, or none
 pub IsLeast-same : (places : PlaceSet) (one other : Option Place) → IsLeast places one → IsLeast places other → one ≡ other
