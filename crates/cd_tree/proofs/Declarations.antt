@@ -10,8 +10,7 @@ use Rattle.cd_tree.specs.KindSets.{no_kinds, has_kind}
 use Rattle.cd_tree.specs.Domains.{Node, Body, Members, node, stop, run, group, no_more, member, put_first, members_by, body_by, node_of, root_of, domain_of, Throughout, ThroughoutBody, ThroughoutMembers}
 use Rattle.cd_tree.specs.TreeModel.{TreeModel, IsTree, NamesChildren, FitsItems}
 use Rattle.cd_tree.specs.Scripts.{IsDetectable, DetectableBody, DetectableMembers, declared_for}
-use Rattle.cd_tree.proofs.View.{domain_fits, nested_view_follows}
-use Rattle.cd_tree.proofs.PathParents.{held}
+use Rattle.cd_tree.proofs.View.{domain_fits, nested_view_follows, held}
 use Rattle.cd_tree.proofs.EachDomain.{Behind, behind_view, root_there, from_each, of_each}
 use Rattle.cd_tree.proofs.DeclaredPaths.{declared_down}
 

@@ -1,6 +1,7 @@
-mod WorkedForms
+pub mod WorkedForms
 mod Worked
 pub mod KindLemmas
+pub mod RefusalLemmas
 pub mod Potential
 pub mod RepeatsParts
 pub mod RepeatsReading
