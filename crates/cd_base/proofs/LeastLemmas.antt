@@ -104,14 +104,25 @@ pub record Left (places : List Range → List Range → PlaceSet) (all more rest
   pub second : IsOrdered left
   pub same : (q : Place) → places rest left q ≡ places all more q
 
--- the first range of one list is passed: the places stay the same
-passed_first : {places : List Range → List Range → PlaceSet} {all more xs ys : List Range} (rs : List Range) → IsOrdered rs
-    → Left places all more xs ys → ((q : Place) → places rs ys q ≡ places xs ys q) → Left places all more rs ys
-passed_first rs o h step = record { first = o; second = h.second; same = λ q. step q ∙ h.same q }
+-- a set of two lists by a test of a place in each
+abbrev mixed : (Bool → Bool → Bool) → List Range → List Range → PlaceSet
+mixed mix rs ss q = mix (in_ranges rs q) (in_ranges ss q)
 
-passed_second : {places : List Range → List Range → PlaceSet} {all more xs ys : List Range} (ss : List Range) → IsOrdered ss
-    → Left places all more xs ys → ((q : Place) → places xs ss q ≡ places xs ys q) → Left places all more xs ss
-passed_second ss u h step = record { first = h.first; second = u; same = λ q. step q ∙ h.same q }
+-- the first range of one list is passed: the places stay the same, where the test does not need it
+passed_first : (mix : Bool → Bool → Bool) → ((a b c : Bool) → (a ≡ true → c ≡ false) → mix b c ≡ mix (a || b) c)
+    → {all more xs ys rs ss : List Range} {r s : Range} → xs ≡ r ∷ rs → ys ≡ s ∷ ss → Left (mixed mix) all more xs ys
+    → ends_before r s ≡ true → Left (mixed mix) all more rs ys
+passed_first mix pass {all} {more} {xs} {ys} {rs} {ss} {r} {s} e f h k =
+    let step : (q : Place) → mixed mix rs ys q ≡ mixed mix xs ys q =
+    λ q. rw (e, f) (pass (in_range r q) (in_ranges rs q) (in_ranges (s ∷ ss) q) (apart r s ss q (subst IsOrdered f h.second) k)) in
+    record { first = (subst IsOrdered e h.first).2; second = h.second; same = λ q. step q ∙ h.same q }
+
+-- and of the other
+passed_second : (mix : Bool → Bool → Bool) {all more xs ys ss : List Range} {s : Range} → ys ≡ s ∷ ss → Left (mixed mix) all more xs ys
+    → ((q : Place) → mix (in_ranges xs q) (in_ranges ss q) ≡ mix (in_ranges xs q) (in_range s q || in_ranges ss q)) → Left (mixed mix) all more xs ss
+passed_second mix {all} {more} {xs} {ys} {ss} {s} f h pass =
+    let step : (q : Place) → mixed mix xs ss q ≡ mixed mix xs ys q = λ q. rw f (pass q) in
+    record { first = h.first; second = (subst IsOrdered f h.second).2; same = λ q. step q ∙ h.same q }
 
 -- the same places have the same least place
 pub IsLeast-of : (P Q : PlaceSet) (answer : Option Place) → ((q : Place) → P q ≡ Q q) → IsLeast P answer → IsLeast Q answer
@@ -129,15 +140,13 @@ least_left {places} {all} {more} {xs} {ys} at p h region index here =
 
 pub Left-common_first : {all more xs ys rs ss : List Range} {r s : Range} → xs ≡ r ∷ rs → ys ≡ s ∷ ss
     → Left in_both all more xs ys → ends_before r s ≡ true → Left in_both all more rs ys
-Left-common_first {all} {more} {xs} {ys} {rs} {ss} {r} {s} e f h k =
-    passed_first rs (subst IsOrdered e h.first).2 h
-    (λ q. rw (e, f) (pass_left (in_range r q) (in_ranges rs q) (in_ranges (s ∷ ss) q) (apart r s ss q (subst IsOrdered f h.second) k)))
+Left-common_first e f h k = passed_first (λ a b. a && b) pass_left e f h k
 
 pub Left-common_second : {all more xs ys rs ss : List Range} {r s : Range} → xs ≡ r ∷ rs → ys ≡ s ∷ ss
     → Left in_both all more xs ys → ends_before s r ≡ true → Left in_both all more xs ss
 Left-common_second {all} {more} {xs} {ys} {rs} {ss} {r} {s} e f h k =
-    passed_second ss (subst IsOrdered f h.second).2 h
-    (λ q. rw (e, f) (pass_right (in_range s q) (in_ranges ss q) (in_ranges (r ∷ rs) q) (apart s r rs q (subst IsOrdered e h.first) k)))
+    passed_second (λ a b. a && b) f h
+    (λ q. rw e (pass_right (in_range s q) (in_ranges ss q) (in_ranges (r ∷ rs) q) (apart s r rs q (subst IsOrdered e h.first) k)))
 
 common_here : (r : Range) (rs : List Range) (s : Range) (ss : List Range) → IsOrdered (r ∷ rs) → IsOrdered (s ∷ ss) → ends_before r s ≡ false → ends_before s r ≡ false
     → IsLeast (in_both (r ∷ rs) (s ∷ ss)) (Some (later_of r s))
@@ -168,9 +177,7 @@ IsLeast-none_second all more xs ys e h = λ q. sym (h.same q) ∙ ap (λ (l : Li
 
 pub Left-alone_first : {all more xs ys rs ss : List Range} {r s : Range} → xs ≡ r ∷ rs → ys ≡ s ∷ ss
     → Left in_second_alone all more xs ys → ends_before r s ≡ true → Left in_second_alone all more rs ys
-Left-alone_first {all} {more} {xs} {ys} {rs} {ss} {r} {s} e f h k =
-    passed_first rs (subst IsOrdered e h.first).2 h
-    (λ q. rw (e, f) (pass_first_alone (in_range r q) (in_ranges rs q) (in_ranges (s ∷ ss) q) (apart r s ss q (subst IsOrdered f h.second) k)))
+Left-alone_first e f h k = passed_first (λ a b. b && not a) pass_first_alone e f h k
 
 pub Left-alone_second : {all more xs ys rs ss : List Range} {r s : Range} → xs ≡ r ∷ rs → ys ≡ s ∷ ss
     → Left in_second_alone all more xs ys → ends_before r s ≡ false → begins_before s r ≡ false → s.high ≤ r.high → Left in_second_alone all more xs ss
@@ -178,8 +185,8 @@ Left-alone_second {all} {more} {xs} {ys} {rs} {ss} {r} {s} e f h k l high =
     let m = begins_within r.region r.low r.high s.region s.low k l in
     let inside : (q : Place) → in_range s q ≡ true → in_ranges (r ∷ rs) q ≡ true =
     λ q i. or_left (in_range r q) (in_ranges rs q) (within r.region r.low r.high s.region s.low s.high q.region q.index m.0 m.1 high i) in
-    passed_second ss (subst IsOrdered f h.second).2 h
-    (λ q. rw (e, f) (pass_second_alone (in_range s q) (in_ranges ss q) (in_ranges (r ∷ rs) q) (inside q)))
+    passed_second (λ a b. b && not a) f h
+    (λ q. rw e (pass_second_alone (in_range s q) (in_ranges ss q) (in_ranges (r ∷ rs) q) (inside q)))
 
 alone_at_start : (xs : List Range) (s : Range) (ss : List Range) → IsOrdered (s ∷ ss) → in_ranges xs (start_of s) ≡ false
     → IsLeast (in_second_alone xs (s ∷ ss)) (Some (start_of s))

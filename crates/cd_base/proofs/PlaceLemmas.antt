@@ -35,6 +35,14 @@ place-same p q region index =
     let at_index : ℕ → Place = λ n. record { region = q.region; index = n } in
     ap at_region region ∙ ap at_index index
 
+-- so are ranges of one region and the same ends
+pub range-same : (r s : Range) → r.region ≡ s.region → r.low ≡ s.low → r.high ≡ s.high → r ≡ s
+range-same r s region low high =
+    let at_region : ℕ → Range = λ n. record { region = n; low = r.low; high = r.high } in
+    let at_low : ℕ → Range = λ n. record { region = s.region; low = n; high = r.high } in
+    let at_high : ℕ → Range = λ n. record { region = s.region; low = s.low; high = n } in
+    ap at_region region ∙ ap at_low low ∙ ap at_high high
+
 pub same_from : (p q : Place) → same_place p q ≡ true → (p.region ≡ q.region) × (p.index ≡ q.index)
 same_from p q is =
     let parts : (p.region == q.region ≡ true) × (p.index == q.index ≡ true) = and_parts (p.region == q.region) (p.index == q.index) is in

@@ -8,6 +8,7 @@ use Rattle.cd_base.specs.declared.place.Range.{Range}
 use Rattle.cd_base.specs.Words.{in_range, in_ranges}
 use Rattle.cd_base.specs.Places.{is_before, IsBeforeAll, IsOrdered, hull, begins_before, by_start, united_from, united}
 use Rattle.cd_base.proofs.BoolLemmas.{or-none, or-assoc, or-swap}
+use Rattle.cd_base.proofs.ListLemmas.{Each}
 use Rattle.cd_base.proofs.RangeLemmas.{is_before-trans, is_before-neither, hull-some, in_range-hull, in_ranges-append}
 
 -- ---- tests and numbers
@@ -38,8 +39,7 @@ before_hull pr ph rr rl sr sl e h k = grind (arith, nat_tests)
 
 -- none of these begins before r
 abbrev pub NoneBegins : Range → List Range → Type 0
-NoneBegins r [] = Unit {0}
-NoneBegins r (s ∷ rest) = (begins_before s r ≡ false) × NoneBegins r rest
+NoneBegins r rest = Each (λ (s : Range). begins_before s r ≡ false) rest
 
 -- no range is empty, and none begins before one that it comes after
 abbrev pub ByStart : List Range → Type 0
