@@ -1,11 +1,11 @@
 -- Two ranges have no common place where, in one region, the lesser end is not above the greater beginning.
-use Rattle.std.proofs.Common.{◌≡◌, ◌↔◌, IsTrue, ℕ, ◌<◌, ◌≤◌, min, max, true, nat_le, refl, arith, inl, inr, sym}
-use Rattle.std.proofs.lemmas.Bool.{leb-true, le-leb, cases_lt, cases_Bool, both_ways}
+use Rattle.std.proofs.Common.{◌≡◌, ◌↔◌, ◌<◌, ◌≤◌, min, max, true, not, ◌==◌, nat_le, refl, arith, inl, inr, sym, ◌∙◌}
+use Rattle.std.proofs.lemmas.Bool.{leb-true, le-leb, eq-eqb, ne_eqb, or_cases, or_left, or_right, not-true, not_from_false, cases_lt, cases_eq, cases_Bool, both_ways}
 use Rattle.cd_base.specs.declared.place.Place.{Place}
 use Rattle.cd_base.specs.declared.place.Range.{Range}
 use Rattle.cd_base.specs.Words.{in_range}
 use Rattle.cd_base.proofs.PlaceLemmas.{Inside, inside_from, inside_to}
-use Rattle.cd_tree.specs.Operations.{AreApart}
+use Rattle.cd_tree.specs.Operations.{AreApart, is_apart}
 
 apart_where_none : (r s : Range) → ((p : Place) → Inside r p → Inside s p → ⊥) → AreApart r s
 apart_where_none r s none p one =
@@ -34,14 +34,21 @@ ends_of_apart r s region apart =
           (inside_to s p (record { region = sym region; low = omega arith; high = omega arith })))
     ]
 
--- the test of two ranges in one region
-pub apart_test : (r s : Range) (high low : ℕ) → r.region ≡ s.region → high ≡ min r.high s.high → low ≡ max r.low s.low
-    → IsTrue (nat_le high low) ↔ AreApart r s
-apart_test r s high low region high_is low_is = (
-  λ test.
-      let ends : high ≤ low = leb-true high low test in
-      apart_by_ends r s (omega arith),
-  λ apart.
-      let ends : min r.high s.high ≤ max r.low s.low = ends_of_apart r s region apart in
-      le-leb high low (omega arith),
+-- what the test says
+pub apart_says : (r s : Range) → is_apart r s ≡ true ↔ AreApart r s
+apart_says r s = (
+  λ test. elim (or_cases (not (r.region == s.region)) (nat_le (min r.high s.high) (max r.low s.low)) test) [
+    | inl elsewhere ↦ apart_where_none r s (λ p one other.
+        let region : r.region ≡ s.region = one.region ∙ sym other.region in
+        both_ways (r.region == s.region) (not-true (r.region == s.region) elsewhere) (eq-eqb r.region s.region region))
+    | inr ends ↦ apart_by_ends r s (leb-true (min r.high s.high) (max r.low s.low) ends)
+  ],
+  λ apart. elim (cases_eq r.region s.region) [
+    | inl same ↦
+        or_right (not (r.region == s.region)) (nat_le (min r.high s.high) (max r.low s.low))
+        (le-leb (min r.high s.high) (max r.low s.low) (ends_of_apart r s same apart))
+    | inr other ↦
+        or_left (not (r.region == s.region)) (nat_le (min r.high s.high) (max r.low s.low))
+        (not_from_false (r.region == s.region) (ne_eqb r.region s.region other))
+  ],
 )

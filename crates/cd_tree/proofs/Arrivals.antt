@@ -5,7 +5,7 @@ use Rattle.cd_tree.specs.declared.domain.Entry.{Entry}
 use Rattle.cd_tree.specs.declared.event.Event.{Event}
 use Rattle.cd_tree.specs.declared.event.Event.TheVariants.{Begin, Reached}
 use Rattle.cd_tree.specs.Reading.{saved_from, refilled_from, prepared}
-use Rattle.cd_tree.proofs.Numbers.{Each}
+use Rattle.cd_base.proofs.ListLemmas.{Each}
 
 -- an event that is no arrival of this domain
 abbrev pub NoArrival : NodeId → Event → Type 0

@@ -12,7 +12,7 @@ use Rattle.cd_tree.specs.Reading.{Case, Counts, Past, joined, Told, told, after,
 use Rattle.cd_tree.specs.Fronts.{Stand, Front, arrives, begins, past_item, where_none, next_point, behind_point, behind_arrival, tried, front_of_node, behind_front, WaitsAt}
 use Rattle.cd_tree.specs.FrontLaws.{StandsThere, FrontBehind, FrontsEndThere, ArrivalsAreFronts, teller_of}
 use Rattle.cd_tree.specs.Slices.{among}
-use Rattle.cd_tree.proofs.Numbers.{Each, each_append}
+use Rattle.cd_base.proofs.ListLemmas.{Each, each_append}
 use Rattle.cd_tree.proofs.TellOwn.{TellerIn, members_tell_own}
 use Rattle.cd_tree.proofs.Arrivals.{NoArrival, split, not_among, arrivals, append_nil, begin_none, refilled_none}
 use Rattle.cd_tree.proofs.FrontParts.{repeated, read_by_arrival, begins_leads, goes_on}

@@ -8,7 +8,8 @@ use Rattle.cd_tree.specs.declared.domain.Domain.{Domain}
 use Rattle.cd_tree.specs.Domains.{Node, Body, Members, node, stop, run, group, no_more, member, put_first, members_by, body_by, nodes_from, node_of, root_of, number_of, domain_of, node_numbers, body_numbers, member_numbers, numbers_from, Throughout, ThroughoutBody, ThroughoutMembers}
 use Rattle.cd_tree.specs.TreeModel.{TreeModel, IsTree}
 use Rattle.cd_tree.specs.Laws.{OfEach}
-use Rattle.cd_tree.proofs.Numbers.{Each, each_append, each_at}
+use Rattle.cd_base.proofs.ListLemmas.{Each, each_append}
+use Rattle.cd_tree.proofs.Numbers.{each_at}
 use Rattle.cd_tree.proofs.View.{nested_view_follows, length-nodes_from}
 
 mutual

@@ -12,7 +12,7 @@ use Rattle.cd_tree.specs.KindSets.{no_kinds, kinds_without}
 use Rattle.cd_tree.specs.Scripts.{struck, kinds_of}
 use Rattle.cd_tree.specs.Domains.{Node, Body, Members, node, stop, run, group, no_more, member, domain_of, Throughout, ThroughoutBody, ThroughoutMembers}
 use Rattle.cd_tree.specs.Reading.{Case, Counts, counted, Past, only_events, Told, after, TryEnd, Passed, Failed, Broken, NodeEnd, GroupEnd, AllDone, SomeEscalated, Try, saved_from, refilled_from, prepared, begun, halted, unless_halted, arrived, detected, group_ended, behind_group, with_end, with_member, escalation, ended, unless_failed, tries, read_node, read_points, read_members}
-use Rattle.cd_tree.proofs.Numbers.{Each, each_append}
+use Rattle.cd_base.proofs.ListLemmas.{Each, each_append}
 
 pub all_every : (P : Event → Type 0) (events : List Event) → Each P events → All P events
 all_every P [] every = All-nil P

@@ -5,6 +5,7 @@ use Rattle.std.proofs.lemmas.Nat.Bits.{bit_at_or, bit_at-zero, same_from_bits}
 use Rattle.std.proofs.lemmas.List.{at_drop_more, drop_all}
 use Rattle.cd_tree.specs.declared.kinds.Kind.{Kind}
 use Rattle.cd_tree.specs.declared.kinds.KindName.{KindName}
+use Rattle.cd_tree.specs.Limits.{kinds_limit}
 use Rattle.cd_tree.specs.KindSets.{only_kind, halting, halting_from}
 
 -- ---- sets as numbers
@@ -17,11 +18,11 @@ bit_or-assoc a b c =
 pub bit_or-none : (a : ℕ) → bit_or a 0 ≡ a
 bit_or-none a = same_from_bits (bit_or a 0) a (λ i. omega (arith, bit_at_or a 0 i, bit_at-zero i))
 
--- a number from 16 on is no kind, and adds none
-pub no_such_kind : (kind : Kind) → 16 ≤ kind.0 → only_kind kind ≡ 0
+-- a number at the limit or above is no kind, and adds none
+pub no_such_kind : (kind : Kind) → kinds_limit ≤ kind.0 → only_kind kind ≡ 0
 no_such_kind kind high = grind (arith, nat_tests)
 
-pub with_none : (kinds : ℕ) (kind : Kind) → 16 ≤ kind.0 → kinds ≡ bit_or kinds (only_kind kind)
+pub with_none : (kinds : ℕ) (kind : Kind) → kinds_limit ≤ kind.0 → kinds ≡ bit_or kinds (only_kind kind)
 with_none kinds kind high = sym (bit_or-none kinds) ∙ ap (bit_or kinds) (sym (no_such_kind kind high))
 
 -- ---- the kinds that halt

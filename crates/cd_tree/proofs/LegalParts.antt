@@ -18,7 +18,7 @@ use Rattle.cd_tree.specs.Reading.{how_kept}
 use Rattle.cd_tree.specs.Legal.{entry_at, OfPattern, IsPatternAnd, GivesWords, Differs, DiffersFirst, MayStand, MayFall, Legal, nothing, same, fell, lapsed}
 use Rattle.cd_tree.specs.LegalLaws.{LegalPieces, SavesAsDeclared, HasPatternWords, LegalFrontsGoOn, LegalFrontsOfRecords, LegalFront, nothing_yet, same_so_far, fell_so_far, falling, lapsed_so_far, lapsing, LegalFrontsAreFronts}
 use Rattle.cd_base.proofs.PlaceLemmas.{Inside, inside_from}
-use Rattle.cd_tree.proofs.Numbers.{Each}
+use Rattle.cd_base.proofs.ListLemmas.{Each}
 use Rattle.cd_tree.proofs.EventsTold.{every_all}
 use Rattle.cd_tree.proofs.SavesDeclared.{records_save}
 

@@ -42,6 +42,7 @@ mod WorkedRefusals
 pub mod Differ
 pub mod Walk
 pub mod Apart
+pub mod ShapeTests
 pub mod BeginsParts
 pub mod BeginsStates
 pub mod BeginsOthers

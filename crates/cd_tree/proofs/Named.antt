@@ -12,7 +12,8 @@ use Rattle.cd_tree.specs.TreeModel.{TreeModel, IsTree, NamesChildren, FitsItems}
 use Rattle.cd_tree.specs.Laws.{OfEach}
 use Rattle.cd_tree.specs.Slices.{children_in, FillSlice, slice_end}
 use Rattle.cd_tree.specs.Groups.{HasMember, StandsAt, StandsIn}
-use Rattle.cd_tree.proofs.Numbers.{Each, each_append, each_at}
+use Rattle.cd_base.proofs.ListLemmas.{Each, each_append}
+use Rattle.cd_tree.proofs.Numbers.{each_at}
 use Rattle.cd_tree.proofs.View.{domain_fits, held, first_has_none}
 use Rattle.cd_tree.proofs.EachDomain.{Behind, behind_view, from_each, number_there, root_there}
 use Rattle.cd_tree.proofs.Filled.{children_fill_slices}

@@ -12,7 +12,8 @@ use Rattle.cd_tree.specs.declared.kinds.KindName.{KindName}
 use Rattle.cd_tree.specs.Domains.{Node, node, Members, put_first, members_by, body_by, nodes_from, root_of, number_of, body_of, node_numbers, body_numbers, member_numbers, numbers_from}
 use Rattle.cd_tree.specs.TreeModel.{TreeModel, IsTree, NamesChildren, FitsItems, EachFits}
 use Rattle.cd_tree.proofs.View.{held, first_has_none}
-use Rattle.cd_tree.proofs.Numbers.{Each, each_append, each_at}
+use Rattle.cd_base.proofs.ListLemmas.{Each, each_append}
+use Rattle.cd_tree.proofs.Numbers.{each_at}
 
 -- the domain of this number is there and has a parent before it
 abbrev HasEarlierParent : List Domain → ℕ → Type 0

@@ -11,7 +11,7 @@ use Rattle.cd_tree.specs.Record.{record_of, case_of}
 use Rattle.cd_tree.specs.Legal.{entry_at}
 use Rattle.cd_tree.specs.LegalLaws.{SavesAsDeclared, ReadingsSaveAsDeclared, RecordsSaveAsDeclared}
 use Rattle.cd_tree.proofs.EachDomain.{Behind, behind_view, views_throughout, root_there}
-use Rattle.cd_tree.proofs.Numbers.{Each}
+use Rattle.cd_base.proofs.ListLemmas.{Each}
 use Rattle.cd_tree.proofs.EventsTold.{all_every, Tells, TellsAll, node_all}
 
 -- the entries from `at` on of a domain that is there

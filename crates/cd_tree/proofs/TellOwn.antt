@@ -8,7 +8,7 @@ use Rattle.cd_tree.specs.Domains.{Node, Body, Members, node, stop, run, group, n
 use Rattle.cd_tree.specs.Reading.{Case, Counts, saved_from, read_node, read_members}
 use Rattle.cd_tree.specs.FrontLaws.{teller_of, DomainsTellTheirOwn}
 use Rattle.cd_tree.specs.Slices.{among}
-use Rattle.cd_tree.proofs.Numbers.{Each}
+use Rattle.cd_base.proofs.ListLemmas.{Each}
 use Rattle.cd_tree.proofs.EventsTold.{all_every, Tells, TellsAll, node_all, members_all}
 use Rattle.cd_tree.proofs.OtherCounts.{Holds, among_first, among_left, among_right}
 

@@ -1,5 +1,5 @@
 -- A worked case of what a program and an accepted script are: a root with a group of two members.
-use Rattle.std.proofs.Common.{◌≡◌, ◌≢◌, false, ℕ, zero, suc, List, [], ◌∷◌, Option, None, Some, IsTrue, All, slice_get, get_or, refl, ap, sym, ◌∙◌, arith}
+use Rattle.std.proofs.Common.{◌≡◌, ◌≢◌, false, ℕ, zero, suc, ◌<◌, ◌≤◌, List, [], ◌∷◌, length, Option, None, Some, IsTrue, All, slice_get, get_or, refl, ap, sym, ◌∙◌, subst, arith}
 use Rattle.std.specs.Option.{option_map_or}
 use Rattle.std.specs.List.{Contains}
 use Rattle.std.proofs.lemmas.List.Elements.{All-nil, All-cons}
@@ -12,7 +12,8 @@ use Rattle.cd_tree.specs.declared.kinds.KindName.{KindName}
 use Rattle.cd_tree.specs.declared.operation.Op.TheVariants.{Fill}
 use Rattle.cd_tree.specs.KindSets.{has_kind}
 use Rattle.cd_tree.specs.Operations.{IsFull}
-use Rattle.cd_tree.specs.TreeModel.{TreeModel, IsTree, FitsDomain, SiblingsDiffer, KindsDiffer}
+use Rattle.cd_tree.specs.Limits.{retry_limit, entries_limit}
+use Rattle.cd_tree.specs.TreeModel.{TreeModel, IsTree, FitsItems, FitsDomain, SiblingsDiffer, KindsDiffer}
 use Rattle.cd_tree.specs.Scripts.{CanStrike, IsAccepted, DetectableMembers}
 use Rattle.cd_tree.specs.Domains.{members_by, node_of, root_of, node_numbers, node_depth}
 use Rattle.cd_tree.specs.Parts.{WalkGives}
@@ -57,29 +58,33 @@ full_z = omega arith
 abbrev FullEntry : Entry → Type 0
 FullEntry entry = IsFull entry.range
 
+-- a domain whose name is one letter fits where its numbers, its entries and its items do
+abbrev NumbersFit : Domain → Type 0
+NumbersFit domain = (0 < domain.retry) × (domain.retry ≤ retry_limit) × (domain.detects < 4) × (length domain.entries ≤ entries_limit)
+
+one_fits : (at letter : ℕ) (domain : Domain) → domain.name ≡ letter ∷ [] → letter ≢ 47 → NumbersFit domain → All FullEntry domain.entries
+    → FitsItems pair_tree.domains at domain.items → FitsDomain kinds pair_tree.domains at domain
+one_fits at letter domain named other numbers entries items =
+    record {
+      name = subst (λ (name : List ℕ). Contains name 47 → ⊥) (sym named) (one_letter letter other);
+      tries = numbers.0;
+      retry = numbers.1;
+      detects = numbers.2;
+      entries = numbers.3;
+      ranges = entries;
+      items = items;
+    }
+
 first_fits : FitsDomain kinds pair_tree.domains 0 first
 first_fits =
-    record {
-      name = one_letter 114 (omega arith);
-      tries = omega arith;
-      retry = omega arith;
-      detects = omega arith;
-      entries = omega arith;
-      ranges = All-cons FullEntry (copied y) (copied z ∷ []) full_y (All-cons FullEntry (copied z) [] full_z (All-nil FullEntry));
-      items = (omega arith, omega arith, (omega arith, refl, (omega arith, refl, tt)), tt);
-    }
+    one_fits 0 114 first refl (omega arith) (omega arith, omega arith, omega arith, omega arith)
+    (All-cons FullEntry (copied y) (copied z ∷ []) full_y (All-cons FullEntry (copied z) [] full_z (All-nil FullEntry)))
+    (omega arith, omega arith, (omega arith, refl, (omega arith, refl, tt)), tt)
 
 leaf_fits : (at letter : ℕ) (range : Range) (word : ℕ) → letter ≢ 47 → IsFull range → FitsDomain kinds pair_tree.domains at (leaf_of letter range word)
 leaf_fits at letter range word other full =
-    record {
-      name = one_letter letter other;
-      tries = omega arith;
-      retry = omega arith;
-      detects = omega arith;
-      entries = omega arith;
-      ranges = All-cons FullEntry (copied range) [] full (All-nil FullEntry);
-      items = (All-cons IsFull range [] full (All-nil IsFull), tt, tt);
-    }
+    one_fits at letter (leaf_of letter range word) refl other (omega arith, omega arith, omega arith, omega arith)
+    (All-cons FullEntry (copied range) [] full (All-nil FullEntry)) (All-cons IsFull range [] full (All-nil IsFull), tt, tt)
 
 -- the first letter of a domain's name
 abbrev letter : Option Domain → ℕ

@@ -36,6 +36,12 @@ KeepsAgreement {A} Fits reads writes meaning =
     (x : A) (places : PlaceSet) (v w : Words) → Fits x → LieIn (reads x) places → SameWords places v w
     → SameWords (in_either places (writes x)) (meaning x v) (meaning x w)
 
+-- all three
+pub record ActsLocally {A : Type 0} (Fits : A → Type 0) (reads writes : A → PlaceSet) (meaning : A → Words → Words) : Type 0 where
+  pub written : SeesItsReads Fits reads writes meaning
+  pub others : LeavesOthers writes meaning
+  pub agreement : KeepsAgreement Fits reads writes meaning
+
 -- ---- operations
 
 -- the i-th word of a range is the same
@@ -67,15 +73,9 @@ SameSources (Spmv d s c values x) v w i =
 abbrev pub ColumnIsLocal : Type 0
 ColumnIsLocal = (op : Op) (v w : Words) (i : ℕ) → SameSources op v w i → column op v i ≡ column op w i
 
--- where its shape is right; where it is wrong it may read past the ends of its sources
-abbrev pub OperationIsLocal : Type 0
-OperationIsLocal = SeesItsReads FitsShape (λ op. in_ranges (op_reads op)) (λ op. in_range (op_writes op)) op_meaning
-
-abbrev pub OperationLeavesOthers : Type 0
-OperationLeavesOthers = LeavesOthers (λ op. in_range (op_writes op)) op_meaning
-
-abbrev pub OperationKeepsAgreement : Type 0
-OperationKeepsAgreement = KeepsAgreement FitsShape (λ op. in_ranges (op_reads op)) (λ op. in_range (op_writes op)) op_meaning
+-- an operation of the right shape; one of a wrong shape may read past the ends of its sources
+abbrev pub OperationsActLocally : Type 0
+OperationsActLocally = ActsLocally FitsShape (λ op. in_ranges (op_reads op)) (λ op. in_range (op_writes op)) op_meaning
 
 -- ---- domains and bodies
 
@@ -107,27 +107,18 @@ CoveredInPrograms = (tree : TreeModel) → IsTree tree → IsCovered (root_of tr
 abbrev pub DisjointInPrograms : Type 0
 DisjointInPrograms = (tree : TreeModel) → IsTree tree → IsDisjoint (root_of tree.domains) → OfEach tree IsDisjoint
 
-abbrev pub MeaningIsLocal : Type 0
-MeaningIsLocal = SeesItsReads AllShapesFit node_reads node_writes node_meaning
+abbrev pub DomainsActLocally : Type 0
+DomainsActLocally = ActsLocally AllShapesFit node_reads node_writes node_meaning
 
-abbrev pub OthersStay : Type 0
-OthersStay = LeavesOthers node_writes node_meaning
+-- a body has no entries of its own
+abbrev pub BodiesActLocally : Type 0
+BodiesActLocally = ActsLocally BodyShapesFit body_reads body_writes body_meaning
 
-abbrev pub AgreementStays : Type 0
-AgreementStays = KeepsAgreement AllShapesFit node_reads node_writes node_meaning
+abbrev pub BodyLeavesOthers : Type 0
+BodyLeavesOthers = LeavesOthers body_writes body_meaning
 
 -- words that agree in the entries of a covered domain agree there after it
 abbrev pub AgreementInEntries : Type 0
 AgreementInEntries =
     (d : Node) (v w : Words) → AllShapesFit d → IsCovered d → SameWords (in_entries (domain_of d).entries) v w
     → SameWords (in_entries (domain_of d).entries) (node_meaning d v) (node_meaning d w)
-
--- a body has no entries of its own
-abbrev pub BodyIsLocal : Type 0
-BodyIsLocal = SeesItsReads BodyShapesFit body_reads body_writes body_meaning
-
-abbrev pub BodyLeavesOthers : Type 0
-BodyLeavesOthers = LeavesOthers body_writes body_meaning
-
-abbrev pub BodyKeepsAgreement : Type 0
-BodyKeepsAgreement = KeepsAgreement BodyShapesFit body_reads body_writes body_meaning
