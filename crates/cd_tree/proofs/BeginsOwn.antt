@@ -9,7 +9,7 @@ use Rattle.cd_tree.specs.Reading.{Case, Counts, counted, Told, Blame, TryEnd, Pa
 use Rattle.cd_tree.specs.CountLaws.{copies}
 use Rattle.cd_tree.proofs.Numbers.{copies-append}
 use Rattle.cd_tree.proofs.BeginsParts.{Goes, Exits, Stops, Leaves, arrived_goes, detected_goes, behind_group_goes, begun_goes, tries_goes, with_member_goes}
-use Rattle.cd_tree.proofs.BeginsStates.{State, is_number, along, along_quiet, IsRight, IsFree, IsAlive, free_lasts, alive_lasts, free_alive, alive_right, other_begins, other_completes, member_escalates, own_begins, own_finds, completes_right, escalates_right}
+use Rattle.cd_tree.proofs.BeginsStates.{State, is_number, along, along_quiet, IsRight, IsFree, IsAlive, free_lasts, alive_lasts, free_alive, alive_right, other_completes, member_escalates, own_begins, own_finds, completes_right, escalates_right}
 use Rattle.cd_tree.proofs.BeginsOthers.{Stays, not_here, tries_keep, points_keep, members_keep}
 
 -- these members have this parent

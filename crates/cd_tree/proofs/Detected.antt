@@ -1,32 +1,31 @@
 -- Where each fault's kind is declared by its domain or by one above it, what a domain leaks or leaves over is declared
 -- above it: so nothing leaves the root.
-use Rattle.std.proofs.Common.{◌≡◌, ℕ, zero, suc, ◌-◌, Bool, true, false, ◌==◌, bit_or, bit_and, IsTrue, List, All, refl, ap, inl, inr}
+use Rattle.std.proofs.Common.{◌≡◌, ℕ, suc, ◌-◌, Bool, true, false, ◌==◌, bit_or, bit_and, IsTrue, List, All, refl, ap, inl, inr}
 use Rattle.std.proofs.lemmas.Bool.{eqb-true}
 use Rattle.cd_tree.specs.declared.domain.NodeId.{NodeId}
-use Rattle.cd_tree.specs.declared.domain.Domain.{Domain}
 use Rattle.cd_tree.specs.declared.document.Fault.{Fault}
 use Rattle.cd_tree.specs.KindSets.{no_kinds, has_kind, kinds_without}
 use Rattle.cd_tree.specs.Scripts.{struck, kinds_of, IsDetectable, DetectableBody, DetectableMembers, IsAccepted}
 use Rattle.cd_tree.specs.Domains.{Node, Body, Members, node, stop, run, group, no_more, member, root_of}
 use Rattle.cd_tree.specs.TreeModel.{TreeModel}
-use Rattle.cd_tree.specs.Reading.{Case, Counts, no_begins, Told, Blame, TryEnd, Passed, Failed, Broken, NodeEnd, Done, Escalated, GroupEnd, AllDone, SomeEscalated, Try, stopped, begun, halted, unless_halted, arrived, judged, detected, group_ended, behind_group, ends_joined, ended, unless_failed, tries, read_node, read_points, read_members}
+use Rattle.cd_tree.specs.Reading.{Case, Counts, no_begins, Told, Blame, TryEnd, NodeEnd, Done, Escalated, GroupEnd, AllDone, SomeEscalated, Try, stopped, begun, halted, unless_halted, arrived, judged, detected, group_ended, behind_group, read_node, read_points, read_members}
 use Rattle.cd_tree.specs.Record.{case_of, reading}
 use Rattle.cd_tree.specs.Laws.{EndsClean}
-use Rattle.cd_tree.proofs.HandsUp.{TryHands, NodeHands, GroupHands, IsGathered, joined_hands, tries_hand}
+use Rattle.cd_tree.proofs.EndKinds.{TryKinds, NodeKinds, GroupKinds, IsGathered, joined_kinds, tries_kinds}
 use Rattle.cd_tree.proofs.DetectedSets.{IsWithin, none_within, or_within, and_within, without_within, apart_within, within_none, struck_within}
 
--- what a try, a domain or a group hands up is declared above
+-- what a try, a domain or a group leaks or leaves over is declared above
 abbrev Above : ℕ → ℕ → Type 0
 Above above kinds = IsWithin kinds above
 
 abbrev TryWithin : ℕ → TryEnd → Type 0
-TryWithin above end = TryHands (Above above) (Above above) end
+TryWithin above end = TryKinds (Above above) (Above above) end
 
 abbrev NodeWithin : ℕ → NodeEnd → Type 0
-NodeWithin above end = NodeHands (Above above) (Above above) end
+NodeWithin above end = NodeKinds (Above above) (Above above) end
 
 abbrev GroupWithin : ℕ → GroupEnd → Type 0
-GroupWithin above end = GroupHands (Above above) (Above above) end
+GroupWithin above end = GroupKinds (Above above) (Above above) end
 
 gathered_within : (above : ℕ) → IsGathered (Above above)
 gathered_within above = record { none = none_within above; both = λ a b p q. or_within a b above p q }
@@ -85,7 +84,7 @@ mutual
   node_within : (w : Case) (above : ℕ) (d : Node) (counts : Counts) → IsDetectable w.faults above d
       → NodeWithin above (read_node w d counts).answer
   node_within w above (node id domain body) counts (declared, below) =
-      tries_hand (Above above) (Above above) (gathered_within above) (domain.retry - 1) id domain
+      tries_kinds (Above above) (Above above) (gathered_within above) (domain.retry - 1) id domain
       (λ now. begun id domain false now
       (λ begin more. read_points w body (record { node = id; detects = domain.detects; begin = begin }) 0 no_kinds more))
       (begun id domain true counts
@@ -116,7 +115,7 @@ mutual
   members_within w above no_more counts below = none_within above
   members_within w above (member first rest) counts (of_first, of_rest) =
       let t : Told NodeEnd = read_node w first counts in
-      joined_hands (Above above) (Above above) (gathered_within above) (gathered_within above) t.answer (read_members w rest t.counts).answer
+      joined_kinds (Above above) (Above above) (gathered_within above) (gathered_within above) t.answer (read_members w rest t.counts).answer
       (node_within w above first counts of_first) (members_within w above rest t.counts of_rest)
 
 within_none_ends_clean : (end : NodeEnd) → NodeWithin no_kinds end → EndsClean end

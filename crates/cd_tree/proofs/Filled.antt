@@ -1,18 +1,18 @@
 -- The children of a domain fill its slice: each stands where the slice of the one before it ends.
-use Rattle.std.proofs.Common.{◌≡◌, ℕ, zero, suc, ◌+◌, ◌-◌, ◌<◌, ◌≤◌, List, [], ◌∷◌, ◌++◌, Option, None, Some, IsSomeAnd, length, get_or, slice_get, refl, ap, sym, ◌∙◌, subst, arith}
+use Rattle.std.proofs.Common.{◌≡◌, ℕ, suc, ◌+◌, ◌-◌, ◌<◌, ◌≤◌, List, [], ◌∷◌, ◌++◌, Option, None, Some, IsSomeAnd, length, get_or, slice_get, refl, ap, sym, ◌∙◌, subst, arith}
 use Rattle.std.specs.Option.{option_map_or}
 use Rattle.std.proofs.lemmas.Option.{slice_get-get_or}
 use Rattle.cd_tree.specs.declared.domain.NodeId.{NodeId}
 use Rattle.cd_tree.specs.declared.domain.Item.{Item}
 use Rattle.cd_tree.specs.declared.domain.Item.TheVariants.{Run, Group}
 use Rattle.cd_tree.specs.declared.domain.Domain.{Domain}
-use Rattle.cd_tree.specs.Domains.{Node, node, put_first, members_by, body_by, nodes_from, node_of, number_of, node_numbers, body_numbers, member_numbers, numbers_from}
+use Rattle.cd_tree.specs.Domains.{Node, node, put_first, members_by, body_by, node_of, number_of, node_numbers, body_numbers, member_numbers, numbers_from}
 use Rattle.cd_tree.specs.TreeModel.{TreeModel, IsTree, NamesChildren, FitsItems}
-use Rattle.cd_tree.specs.Slices.{node_size, IsSlice, slice_end, children_in, FillSlice}
+use Rattle.cd_tree.specs.Slices.{node_size, slice_end, children_in, FillSlice}
 use Rattle.cd_tree.proofs.View.{domain_fits, nested_view_follows}
 use Rattle.cd_tree.proofs.Walk.{length-numbers_from, Parts, numbers_parted}
 use Rattle.cd_tree.proofs.EachDomain.{number_there}
-use Rattle.cd_tree.proofs.Slices.{headed, head_number, EndsWithin, slices_end_within, subtrees_are_slices}
+use Rattle.cd_tree.proofs.Slices.{headed, head_number, slices_end_within, subtrees_are_slices}
 
 -- a domain that stands for none
 abbrev nobody : Domain

@@ -1,15 +1,14 @@
 -- No leak has a halting kind: a note of one ends its try, so that the notes of a try that goes on have none.
-use Rattle.std.proofs.Common.{◌≡◌, ℕ, zero, suc, ◌-◌, Bool, true, false, ◌==◌, bit_or, bit_and, refl, ap, arith}
+use Rattle.std.proofs.Common.{◌≡◌, ℕ, suc, ◌-◌, Bool, true, false, ◌==◌, bit_or, bit_and, refl, ap, arith}
 use Rattle.std.proofs.lemmas.Bool.{eqb-true}
 use Rattle.std.proofs.lemmas.Nat.Bits.{bit_at_or, bit_at_and, bit_at-zero, same_from_bits}
 use Rattle.std.specs.Int.{bit_at}
 use Rattle.cd_tree.specs.declared.domain.NodeId.{NodeId}
-use Rattle.cd_tree.specs.declared.domain.Domain.{Domain}
 use Rattle.cd_tree.specs.KindSets.{no_kinds, kinds_without}
 use Rattle.cd_tree.specs.Scripts.{struck, kinds_of}
 use Rattle.cd_tree.specs.Domains.{Node, Body, Members, node, stop, run, group, no_more, member}
-use Rattle.cd_tree.specs.Reading.{Case, Counts, Told, Blame, TryEnd, Passed, Failed, Broken, NodeEnd, Done, Escalated, GroupEnd, AllDone, SomeEscalated, Try, stopped, begun, halted, unless_halted, arrived, judged, detected, group_ended, behind_group, ends_joined, ended, unless_failed, tries, read_node, read_points, read_members}
-use Rattle.cd_tree.proofs.HandsUp.{TryHands, NodeHands, GroupHands, IsGathered, joined_hands, tries_hand}
+use Rattle.cd_tree.specs.Reading.{Case, Counts, Told, Blame, TryEnd, NodeEnd, Done, GroupEnd, AllDone, SomeEscalated, Try, stopped, begun, halted, unless_halted, arrived, judged, detected, group_ended, behind_group, read_node, read_points, read_members}
+use Rattle.cd_tree.proofs.EndKinds.{TryKinds, NodeKinds, GroupKinds, IsGathered, joined_kinds, tries_kinds}
 
 -- none of these kinds halts
 abbrev pub Quiet : ℕ → ℕ → Type 0
@@ -20,13 +19,13 @@ abbrev Anything : ℕ → Type 0
 Anything kinds = Unit {0}
 
 abbrev QuietTry : ℕ → TryEnd → Type 0
-QuietTry halts end = TryHands (Quiet halts) Anything end
+QuietTry halts end = TryKinds (Quiet halts) Anything end
 
 abbrev pub QuietNode : ℕ → NodeEnd → Type 0
-QuietNode halts end = NodeHands (Quiet halts) Anything end
+QuietNode halts end = NodeKinds (Quiet halts) Anything end
 
 abbrev pub QuietGroup : ℕ → GroupEnd → Type 0
-QuietGroup halts end = GroupHands (Quiet halts) Anything end
+QuietGroup halts end = GroupKinds (Quiet halts) Anything end
 
 pub none_is_quiet : (halts : ℕ) → Quiet halts no_kinds
 none_is_quiet halts = same_from_bits _ _ (λ i. omega (arith, bit_at_and 0 halts i, bit_at-zero i))
@@ -85,7 +84,7 @@ mutual
 
   pub node_quiet : (w : Case) (d : Node) (counts : Counts) → QuietNode w.halts (read_node w d counts).answer
   node_quiet w (node id domain body) counts =
-      tries_hand (Quiet w.halts) Anything gathered_anything (domain.retry - 1) id domain
+      tries_kinds (Quiet w.halts) Anything gathered_anything (domain.retry - 1) id domain
       (λ now. begun id domain false now
       (λ begin more. read_points w body (record { node = id; detects = domain.detects; begin = begin }) 0 no_kinds more))
       (begun id domain true counts
@@ -113,7 +112,7 @@ mutual
   members_quiet w no_more counts = none_is_quiet w.halts
   members_quiet w (member first rest) counts =
       let t : Told NodeEnd = read_node w first counts in
-      joined_hands (Quiet w.halts) Anything (gathered_quiet w.halts) gathered_anything t.answer (read_members w rest t.counts).answer
+      joined_kinds (Quiet w.halts) Anything (gathered_quiet w.halts) gathered_anything t.answer (read_members w rest t.counts).answer
       (node_quiet w first counts) (members_quiet w rest t.counts)
 
 pub no_leak_halts : (w : Case) (d : Node) (counts : Counts) (leak : ℕ) → (read_node w d counts).answer ≡ Done leak

@@ -15,7 +15,7 @@ mod WorkedWords
 mod WorkedGrid
 mod WorkedTree
 pub mod View
-pub mod HandsUp
+pub mod EndKinds
 pub mod Leaks
 pub mod DetectedSets
 pub mod Detected

@@ -1,11 +1,11 @@
 -- That an operation fits its shape, and the test of it, say the same.
-use Rattle.std.proofs.Common.{◌≡◌, ◌↔◌, ◌+◌, Bool, true, ◌&&◌, ◌||◌, ◌==◌, ℕ, refl, ap, ◌∙◌, inl, inr}
+use Rattle.std.proofs.Common.{◌≡◌, ◌↔◌, ◌+◌, Bool, true, ◌&&◌, ◌||◌, ◌==◌, ℕ, refl, ap, inl, inr}
 use Rattle.std.proofs.lemmas.Bool.{and_parts, and_from, or_cases, or_left, or_right, eqb-true, eq-eqb}
 use Rattle.cd_base.specs.declared.place.Range.{Range}
 use Rattle.cd_base.proofs.PlaceLemmas.{range-same}
 use Rattle.cd_tree.specs.declared.operation.Op.{Op}
 use Rattle.cd_tree.specs.declared.operation.Op.TheVariants.{Fill, Copy, Add, Sub, Mul, Axpy, Scan, Sum, Dot, Max, Stencil, Spmv}
-use Rattle.cd_tree.specs.Operations.{length_of, AreApart, IsInStep, FitsShape, is_same_range, is_apart, are_both_apart, is_in_step, is_total, is_dot, is_stencil, is_spmv, fits_shape}
+use Rattle.cd_tree.specs.Operations.{length_of, AreApart, IsInStep, FitsShape, is_same_range, is_apart, are_both_apart, is_in_step, is_total, fits_shape}
 use Rattle.cd_tree.proofs.Apart.{apart_says}
 
 -- ---- tests that say something, together

@@ -1,13 +1,10 @@
 -- Subtrees are slices: the numbers below a run of numbers are runs, and members follow each other in them.
-use Rattle.std.proofs.Common.{◌≡◌, ℕ, zero, suc, ◌+◌, ◌-◌, ◌<◌, ◌≤◌, Bool, true, false, ◌||◌, ◌&&◌, ◌==◌, nat_le, nat_lt, List, [], ◌∷◌, ◌++◌, length, refl, ap, sym, ◌∙◌, subst, arith}
+use Rattle.std.proofs.Common.{◌≡◌, ℕ, zero, suc, ◌+◌, ◌-◌, ◌≤◌, Bool, false, ◌||◌, ◌==◌, List, ◌∷◌, length, ap, sym, ◌∙◌, arith}
 use Rattle.std.proofs.lemmas.Bool.Decides.{nat_tests}
-use Rattle.std.proofs.lemmas.List.{length-append}
-use Rattle.cd_tree.specs.declared.domain.NodeId.{NodeId}
-use Rattle.cd_tree.specs.declared.domain.Domain.{Domain}
-use Rattle.cd_tree.specs.Domains.{Node, Body, Members, node, stop, run, group, no_more, member, node_of, root_of, number_of, body_of, node_numbers, body_numbers, member_numbers, numbers_from, Throughout, ThroughoutBody, ThroughoutMembers}
+use Rattle.cd_tree.specs.Domains.{Node, Body, Members, node, stop, run, group, no_more, member, root_of, number_of, body_of, node_numbers, body_numbers, member_numbers, numbers_from, Throughout, ThroughoutBody, ThroughoutMembers}
 use Rattle.cd_tree.specs.TreeModel.{TreeModel, IsTree}
 use Rattle.cd_tree.specs.Laws.{OfEach}
-use Rattle.cd_tree.specs.Slices.{node_size, members_size, IsSlice, among, in_slice, MembersFollow, GroupsFollow}
+use Rattle.cd_tree.specs.Slices.{node_size, IsSlice, among, in_slice, MembersFollow, GroupsFollow}
 use Rattle.cd_tree.proofs.Walk.{length-numbers_from, Parts, numbers_parted}
 use Rattle.cd_tree.proofs.EachDomain.{of_each}
 

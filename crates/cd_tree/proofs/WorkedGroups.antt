@@ -85,12 +85,12 @@ second_try : front_tells 2 0
 unfolding read_node
 second_try = refl
 
--- behind the group the second try comes to its last point, with no notes
-second_try_behind : front_tells 2 1 ≡ Some (first_group ++ second_group ++ reached 0 1 ∷ [], 0, 2 ∷ 2 ∷ 2 ∷ [], 1, 1)
+-- after the group the second try comes to its last point, with no notes
+second_try_after : front_tells 2 1 ≡ Some (first_group ++ second_group ++ reached 0 1 ∷ [], 0, 2 ∷ 2 ∷ 2 ∷ [], 1, 1)
 unfolding read_node
-second_try_behind = refl
+second_try_after = refl
 
--- the first try never comes behind its group; there is no third try, since the second passes; points end behind the last item
+-- the first try never comes to the point after its group; there is no third try, since the second passes; no point is after the last
 nowhere_else : front_at 1 1 ∷ front_at 3 0 ∷ front_at 2 2 ∷ [] ≡ None ∷ None ∷ None ∷ []
 unfolding read_node
 nowhere_else = refl

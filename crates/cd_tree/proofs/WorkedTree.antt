@@ -86,22 +86,20 @@ leaf_fits at letter range word other full =
     one_fits at letter (leaf_of letter range word) refl other (omega arith, omega arith, omega arith, omega arith)
     (All-cons FullEntry (copied range) [] full (All-nil FullEntry)) (All-cons IsFull range [] full (All-nil IsFull), tt, tt)
 
--- the first letter of a domain's name
-abbrev letter : Option Domain → ℕ
-letter found = option_map_or (λ (domain : Domain). get_or domain.name 0 0) found 0
+-- the first letter of a name
+abbrev letter : {A : Type 0} → (A → List ℕ) → Option A → ℕ
+letter name found = option_map_or (λ x. get_or (name x) 0 0) found 0
 
-letters_differ : (found there : Option Domain) (one other : Domain) → found ≡ Some one → there ≡ Some other
-    → letter found ≢ letter there → one.name ≢ other.name
-letters_differ found there one other p q differ names =
-    differ (ap letter p ∙ ap (λ (name : List ℕ). get_or name 0 0) names ∙ sym (ap letter q))
+letters_differ : {A : Type 0} (name : A → List ℕ) (found there : Option A) (one other : A) → found ≡ Some one → there ≡ Some other
+    → letter name found ≢ letter name there → name one ≢ name other
+letters_differ name found there one other p q differ names =
+    differ (ap (letter name) p ∙ ap (λ (n : List ℕ). get_or n 0 0) names ∙ sym (ap (letter name) q))
 
-abbrev kind_letter : Option KindName → ℕ
-kind_letter found = option_map_or (λ (kind : KindName). get_or kind.name 0 0) found 0
+abbrev domain_name : Domain → List ℕ
+domain_name domain = domain.name
 
-kind_letters_differ : (found there : Option KindName) (one other : KindName) → found ≡ Some one → there ≡ Some other
-    → kind_letter found ≢ kind_letter there → one.name ≢ other.name
-kind_letters_differ found there one other p q differ names =
-    differ (ap kind_letter p ∙ ap (λ (name : List ℕ). get_or name 0 0) names ∙ sym (ap kind_letter q))
+abbrev kind_name : KindName → List ℕ
+kind_name kind = kind.name
 
 siblings : SiblingsDiffer pair_tree.domains
 siblings zero zero one other p q parents names = refl
@@ -111,11 +109,11 @@ siblings zero (suc (suc (suc j))) one other p q parents names = absurd (cc)
 siblings (suc zero) zero one other p q parents names = absurd (cc)
 siblings (suc zero) (suc zero) one other p q parents names = refl
 siblings (suc zero) (suc (suc zero)) one other p q parents names =
-    absurd (letters_differ (Some left) (Some right) one other p q (omega arith) names)
+    absurd (letters_differ domain_name (Some left) (Some right) one other p q (omega arith) names)
 siblings (suc zero) (suc (suc (suc j))) one other p q parents names = absurd (cc)
 siblings (suc (suc zero)) zero one other p q parents names = absurd (cc)
 siblings (suc (suc zero)) (suc zero) one other p q parents names =
-    absurd (letters_differ (Some right) (Some left) one other p q (omega arith) names)
+    absurd (letters_differ domain_name (Some right) (Some left) one other p q (omega arith) names)
 siblings (suc (suc zero)) (suc (suc zero)) one other p q parents names = refl
 siblings (suc (suc zero)) (suc (suc (suc j))) one other p q parents names = absurd (cc)
 siblings (suc (suc (suc i))) j one other p q parents names = absurd (cc)
@@ -123,10 +121,10 @@ siblings (suc (suc (suc i))) j one other p q parents names = absurd (cc)
 kinds_differ : KindsDiffer kinds
 kinds_differ zero zero one other p q names = refl
 kinds_differ zero (suc zero) one other p q names =
-    absurd (kind_letters_differ (slice_get kinds 0) (slice_get kinds 1) one other p q (omega arith) names)
+    absurd (letters_differ kind_name (slice_get kinds 0) (slice_get kinds 1) one other p q (omega arith) names)
 kinds_differ zero (suc (suc j)) one other p q names = absurd (cc)
 kinds_differ (suc zero) zero one other p q names =
-    absurd (kind_letters_differ (slice_get kinds 1) (slice_get kinds 0) one other p q (omega arith) names)
+    absurd (letters_differ kind_name (slice_get kinds 1) (slice_get kinds 0) one other p q (omega arith) names)
 kinds_differ (suc zero) (suc zero) one other p q names = refl
 kinds_differ (suc zero) (suc (suc j)) one other p q names = absurd (cc)
 kinds_differ (suc (suc i)) j one other p q names = absurd (cc)

@@ -1,4 +1,4 @@
-use Rattle.std.proofs.Common.{ℕ, ◌+◌, ◌*◌}
+use Rattle.std.proofs.Common.{◌+◌, ◌*◌}
 use Rattle.cd_tree.specs.Domains.{node_of, members_by, body_by, body_numbers, member_numbers, body_depth, members_depth}
 use Rattle.cd_tree.proofs.Walk.{LeavesWhole}
 use Rattle.cd_tree.proofs.check.+walk.Given as goal
