@@ -24,3 +24,4 @@ pub mod Slices
 pub mod Groups
 pub mod SliceLaws
 pub mod AcceptedLaws
+pub mod RecordLengths
