@@ -4,6 +4,7 @@ ghost use Rattle.cd_base.specs.Ends.{WriteAll};
 ghost use Rattle.cd_tree.specs.declared.document.Fault.{Fault};
 ghost use Rattle.cd_tree.specs.declared.domain.How.TheVariants as kept;
 ghost use Rattle.cd_tree.specs.declared.domain.Entry.{Entry};
+ghost use Rattle.cd_tree.specs.Scripts.{IsAccepted};
 ghost use Rattle.cd_core.specs.Single.{OnlyCopies};
 ghost use Rattle.cd_reading.specs.Through.{begins_in, cause_in};
 ghost use Rattle.cd_app.specs.Running.{IsBuilt, HoldsRun, report_of};
@@ -79,10 +80,12 @@ fn report<K: Sink, F: Field>(
     sink: &mut K,
 ) -> Result<(), WriteStop>
     requires built { IsBuilt document.now.tree }
-    requires ran { (script : List Fault) × HoldsRun document.now script (F.model machine.now) }
+    requires ran { (script : List Fault) × HoldsRun document.now script (F.model machine.now) × IsAccepted document.now.tree script }
     ensures { (script : List Fault) → HoldsRun document.now script (F.model machine.now) → begins ∷ [] ≡ begins_in document.now.tree script → option_copied cause.entry ≡ cause_in document.now.tree script → WriteAll (K.model sink.old) (K.model sink.new) (report_of record_wanted document.now script) result }
 {
     laws::words_stay();
+    laws::records_are_short();
+    prove!(0 < document.tree.count());
     let Ok(counts) = vec![in alloc; begins] else {
         return Err(WriteStop::NoMemory);
     };

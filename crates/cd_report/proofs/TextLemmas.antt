@@ -130,7 +130,7 @@ path_missing domains id h =
 pub four_pieces : (a b c d : List ℕ) → a ++ (b ++ (c ++ d)) ≡ a ++ b ++ c ++ d
 four_pieces a b c d = sym (append_assoc (a ++ b) c d ∙ append_assoc a b (c ++ d))
 
-six_pieces : (a b c d e f : List ℕ) → a ++ (b ++ (c ++ (d ++ (e ++ f)))) ≡ a ++ b ++ c ++ d ++ e ++ f
+pub six_pieces : (a b c d e f : List ℕ) → a ++ (b ++ (c ++ (d ++ (e ++ f)))) ≡ a ++ b ++ c ++ d ++ e ++ f
 six_pieces a b c d e f = four_pieces a b c (d ++ (e ++ f)) ∙ four_pieces (a ++ b ++ c) d e f
 
 pub five_pieces : (a b c d e : List ℕ) → a ++ (b ++ (c ++ (d ++ e))) ≡ a ++ b ++ c ++ d ++ e

@@ -1,3 +1,4 @@
+// Places as text.
 ghost use Rattle.std.specs.Prelude.{◌≡◌, [], IfOk, slice_get, string_bytes};
 ghost use Rattle.std.specs.Option.{option_map_or};
 ghost use Rattle.cd_report.specs.Texts.{place_text};

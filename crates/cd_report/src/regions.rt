@@ -1,3 +1,4 @@
+// The regions' words in a report.
 ghost use Rattle.std.specs.Prelude.{◌≡◌, ℕ, ◌<◌, ◌^◌, ◌++◌, length, sum, OnOk, string_bytes};
 ghost use Rattle.cd_base.specs.Words.{word_at, word_of};
 ghost use Rattle.cd_field.specs.FieldModel.{IsPresent};

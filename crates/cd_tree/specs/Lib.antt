@@ -52,3 +52,4 @@ pub mod Begins
 pub mod FrontLaws
 -- legal records go together
 pub mod LegalLaws
+pub mod RecordLengths
