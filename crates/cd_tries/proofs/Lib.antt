@@ -1,0 +1,2 @@
+pub mod WorkedKeeps
+pub mod WorkedTries
