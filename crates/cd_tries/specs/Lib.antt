@@ -1,0 +1,7 @@
+pub mod Keeping
+pub mod Preserving
+pub mod Refilling
+pub mod Running
+pub mod Fitting
+pub mod KeepLaws
+pub mod TryLaws

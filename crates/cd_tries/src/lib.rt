@@ -1,0 +1,21 @@
+//! The tries of one domain on a machine and a pass: what it preserves and how, what a later try puts back, its points up to
+//! a group, and how a try is judged.
+//!
+//! Each call's clause says exactly what becomes of the machine and of the pass, by a definition over what contracts see of
+//! them; what that means for the reading of a program is no matter of this crate.
+#![tactic(auto)]
+
+mod keep;
+mod points;
+mod preserving;
+mod refilling;
+mod shelf;
+mod tries;
+pub mod try_laws;
+
+pub use keep::{Keep, Pieces};
+pub use points::Arrival;
+pub use preserving::preserve;
+pub use refilling::refill_all;
+pub use shelf::{Level, Shelf};
+pub use tries::{Attempt, Course, Stop, go_on, try_again};
