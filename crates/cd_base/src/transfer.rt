@@ -26,6 +26,7 @@ impl From<Failed> for ReadStop {
     }
 }
 
+// The bytes that one read asks for at most.
 const PIECE: usize = 4096;
 
 /// Reads to the end, in pieces. It never asks for more than one byte past the limit, so what follows stays unread.
