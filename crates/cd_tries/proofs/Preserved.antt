@@ -1,5 +1,5 @@
 -- Entries preserved one by one: what is preserved so far and the rest give the whole.
-use Rattle.std.proofs.Common.{◌≡◌, ℕ, zero, suc, ◌+◌, ◌-◌, ◌*◌, ◌/◌, ◌<◌, ◌≤◌, min, true, Bool, ◌||◌, List, [], ◌∷◌, ◌++◌, length, take, drop, get_or, Option, None, Some, IsSomeAnd, sum_by, arith, refl, ap, sym, subst, ◌∙◌, append_assoc, add-one}
+use Rattle.std.proofs.Common.{◌≡◌, ℕ, zero, suc, ◌+◌, ◌-◌, ◌/◌, ◌<◌, ◌≤◌, min, true, List, [], ◌∷◌, ◌++◌, length, take, drop, get_or, Option, None, Some, IsSomeAnd, sum_by, arith, refl, ap, sym, subst, ◌∙◌, append_assoc, add-one}
 use Rattle.std.proofs.lemmas.Bool.{or_left, or_right}
 use Rattle.std.proofs.lemmas.List.{append-nil, length_push, drop_more, drop_all, length-take}
 use Rattle.std.proofs.lemmas.List.Sums.{sum_by-drop_more}
@@ -63,7 +63,7 @@ spent_none n p q is = record {
 count_short : (begin low high : ℕ) → (high - 1 - begin) / 64 + 1 - (low - begin) / 64 ≤ (high - low + 63) / 64 + 1
 count_short begin low high = omega arith
 
-met_short : (o : Option Pieces) (pieces : Pieces) (r : Range) → IsSomeAnd o (λ link. pieces ≡ met link r) → length pieces.ids ≤ blocks_of r + 1
+pub met_short : (o : Option Pieces) (pieces : Pieces) (r : Range) → IsSomeAnd o (λ link. pieces ≡ met link r) → length pieces.ids ≤ blocks_of r + 1
 met_short None pieces r h = absurd h
 met_short (Some link) pieces r h =
     let is : length pieces.ids ≡ length (take (count_met link r) (drop (first_met link r) link.ids)) = ap (λ (v : Pieces). length v.ids) h in

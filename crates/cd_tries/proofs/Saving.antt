@@ -1,17 +1,16 @@
 -- One entry preserved: what is told of it, and what the pass knows and has room for then.
-use Rattle.std.proofs.Common.{◌≡◌, ◌≢◌, ℕ, zero, suc, ◌+◌, ◌-◌, ◌*◌, ◌/◌, ◌<◌, ◌≤◌, min, true, List, [], ◌∷◌, ◌++◌, length, take, drop, get_or, Option, None, Some, IsSome, IsSomeAnd, slice_get, All, Contains, arith, refl, ap, sym, subst, ◌∙◌, append_assoc}
+use Rattle.std.proofs.Common.{◌≡◌, ◌≢◌, ℕ, ◌+◌, ◌-◌, ◌<◌, min, List, [], ◌∷◌, length, take, drop, get_or, Option, Some, IsSome, slice_get, All, Contains, arith, refl, ap, sym, subst, ◌∙◌, append_assoc}
 use Rattle.std.proofs.lemmas.List.{get_or-take, get_or-drop, length-take, length-drop}
 use Rattle.std.proofs.lemmas.Option.{slice_get-get_or}
 use Rattle.cd_base.specs.declared.place.Place.{Place}
 use Rattle.cd_base.specs.declared.place.Range.{Range}
 use Rattle.cd_base.specs.declared.pattern.Pattern.{Pattern}
-use Rattle.cd_base.specs.Words.{in_range, pattern_word}
-use Rattle.cd_tree.specs.declared.domain.How.TheVariants.{Copy, Refer, Regen}
+use Rattle.cd_base.specs.Words.{pattern_word}
+use Rattle.cd_tree.specs.declared.domain.How.TheVariants.{Refer, Regen}
 use Rattle.cd_tree.specs.declared.event.Kept.TheVariants as kept_as
 use Rattle.cd_tree.specs.declared.event.Event.{Event}
 use Rattle.cd_tree.specs.declared.event.Event.TheVariants.{Saved, Fell, Lapsed}
 use Rattle.cd_tree.specs.Legal.{Differs, DiffersFirst}
-use Rattle.cd_tree.specs.Meaning.{blocks_of}
 use Rattle.cd_field.specs.FieldModel.{FieldModel, IsPresent, ArePresent, told}
 use Rattle.cd_keep.specs.declared.keep_id.KeepId.{KeepId}
 use Rattle.cd_keep.specs.declared.gone_note.GoneNote.{GoneNote}

@@ -1,5 +1,5 @@
 use Rattle.std.proofs.Common.{take}
-use Rattle.cd_tries.proofs.Holding.{no_id, nth_known, nth_room, gone_held, gone_undone, one_more_shared}
+use Rattle.cd_tries.proofs.Holding.{nth_known, nth_room, gone_held, gone_undone, one_more_shared}
 use Rattle.cd_tries.proofs.sharing.share_all.Goals as goal
 
 pub share-requires-clause-known : goal.share-requires-clause-known
