@@ -21,7 +21,8 @@ pub fn event_line(
     match event {
         Event::Begin { node, number } => numbered(alloc, "begin", node, number),
         Event::Saved { node, entry, how } => {
-            format!(in alloc; "saved {} {entry} {}\n", node.0, kept_text(how))
+            let text = format!(in alloc; "saved {} {entry} {}\n", node.0, kept_text(how))?;
+            Ok(text)
         }
         Event::Fell {
             node,
