@@ -17,23 +17,13 @@ use Rattle.cd_base.proofs.EndLemmas.{Rose-before}
 use Rattle.cd_tree.specs.declared.domain.NodeId.{NodeId}
 use Rattle.cd_tree.specs.declared.document.Region.{Region}
 use Rattle.cd_tree.specs.declared.kinds.KindName.{KindName}
-use Rattle.cd_tree.specs.declared.event.Kept.{Kept}
 use Rattle.cd_tree.specs.declared.event.Event.{Event}
-use Rattle.cd_tree.specs.declared.event.Event.TheVariants.{Saved, Fell, Lapsed}
+use Rattle.cd_tree.specs.declared.event.Event.TheVariants.{Fell, Lapsed}
 use Rattle.cd_report.specs.Texts.{line, place_text}
-use Rattle.cd_report.specs.Records.{kept_text, event_text, event_line, events_text}
-use Rattle.cd_report.proofs.TextLemmas.{next_piece, seven_pieces, nine_pieces, eleven_pieces}
+use Rattle.cd_report.specs.Records.{event_text, event_line, events_text}
+use Rattle.cd_report.proofs.TextLemmas.{next_piece, nine_pieces, eleven_pieces}
 
 -- the lines of the events, made of their pieces
-pub saved_line : (kinds : List KindName) (regions : List Region) (event : Event) (node : NodeId) (entry : ℕ) (how : Kept) (word made : List ℕ)
-    → event ≡ Saved node entry how → word ≡ kept_text how
-    → made ≡ codes "saved " ++ (decimal node.0 ++ (codes " " ++ (decimal entry ++ (codes " " ++ (word ++ codes "\n")))))
-    → made ≡ event_line kinds regions event
-saved_line kinds regions event node entry how word made is w e =
-    e ∙ seven_pieces (codes "saved ") (decimal node.0) (codes " ") (decimal entry) (codes " ") word (codes "\n")
-    ∙ ap (λ (t : List ℕ). line (codes "saved " ++ decimal node.0 ++ codes " " ++ decimal entry ++ codes " " ++ t)) w
-    ∙ ap (event_line kinds regions) (sym is)
-
 pub fell_line : (kinds : List KindName) (regions : List Region) (event : Event) (node : NodeId) (entry : ℕ) (p : Place) (wanted found : ℕ) (place made : List ℕ)
     → event ≡ Fell node entry p wanted found → place ≡ place_text regions p
     → made ≡ codes "fell " ++ (decimal node.0 ++ (codes " " ++ (decimal entry ++ (codes " " ++ (place ++ (codes " wanted " ++ (decimal wanted ++ (codes " found " ++ (decimal found ++ codes "\n")))))))))

@@ -21,7 +21,8 @@ pub fn event_line(
     match event {
         Event::Begin { node, number } => numbered(alloc, "begin", node, number),
         Event::Saved { node, entry, how } => {
-            format!(in alloc; "saved {} {entry} {}\n", node.0, kept_text(how))
+            let text = format!(in alloc; "saved {} {entry} {}\n", node.0, kept_text(how))?;
+            Ok(text)
         }
         Event::Fell {
             node,
@@ -55,7 +56,8 @@ pub fn event_line(
 fn numbered(alloc: Global, word: &str, node: NodeId, number: u64) -> Result<String, AllocError>
     ensures { IfOk result (λ text. string_bytes text ≡ line (word.now ++ codes " " ++ decimal node.0 ++ codes " " ++ decimal number)) }
 {
-    format!(in alloc; "{word} {} {number}\n", node.0)
+    let text = format!(in alloc; "{word} {} {number}\n", node.0)?;
+    Ok(text)
 }
 
 /// A line of a word, a domain and the names of the kinds of a set.
@@ -70,7 +72,8 @@ fn named(
     ensures { IfOk result (λ text. string_bytes text ≡ line (word.now ++ codes " " ++ decimal node.0 ++ codes " " ++ kinds_text names.now kinds)) }
 {
     let kinds = kinds_text(alloc, names, kinds)?;
-    format!(in alloc; "{word} {} {kinds}\n", node.0)
+    let text = format!(in alloc; "{word} {} {kinds}\n", node.0)?;
+    Ok(text)
 }
 
 /// How an entry was preserved.

@@ -2,16 +2,8 @@ use Rattle.std.proofs.Common.{◌≡◌, ◌++◌, codes, string_bytes}
 use Rattle.std.proofs.lemmas.Result.{IfOk-weaker}
 use Rattle.std.specs.Fmt.{decimal}
 use Rattle.cd_report.specs.Records.{event_line}
-use Rattle.cd_report.proofs.RecordLemmas.{saved_line, fell_line, lapsed_line}
+use Rattle.cd_report.proofs.RecordLemmas.{fell_line, lapsed_line}
 use Rattle.cd_report.proofs.events.event_line.Goals as goal
-
-pub returns-in-Saved : goal.returns-in-Saved
-returns-in-Saved c =
-    IfOk-weaker c.format.result
-    (λ text. string_bytes text ≡ codes "saved " ++ (decimal c.in-Saved.node.0 ++ (codes " " ++ (decimal c.in-Saved.entry ++ (codes " " ++ (c.kept_text.result.now ++ codes "\n"))))))
-    (λ text. string_bytes text ≡ event_line c.args.kinds.now c.args.regions.now c.args.event)
-    (λ text e. saved_line c.args.kinds.now c.args.regions.now c.args.event c.in-Saved.node c.in-Saved.entry c.in-Saved.how c.kept_text.result.now (string_bytes text) c.in-Saved.is c.kept_text.ensures e)
-    c.format.ensures.ok
 
 pub returns-in_ok-place-in-Fell : goal.returns-in_ok-place-in-Fell
 returns-in_ok-place-in-Fell c =
