@@ -8,3 +8,4 @@ pub mod Pointing
 pub mod Refilled
 pub mod Staying
 pub mod Trying
+pub mod Sample
