@@ -15,7 +15,7 @@ use Rattle.cd_tries.specs.Keeping.{Known, text, piece_words, Cover, EachMeets, t
 use Rattle.cd_tries.specs.Refilling.{words_at, part_of_piece}
 use Rattle.cd_tries.proofs.PlaceTests.{Inside, inside_from, chosen}
 
-some_is : {A : Type 0} (x y : A) → Some x ≡ Some y → x ≡ y
+pub some_is : {A : Type 0} (x y : A) → Some x ≡ Some y → x ≡ y
 some_is {A} x y e = ap (λ (o : Option A). unwrap_or o x) e
 
 -- the words of one id
