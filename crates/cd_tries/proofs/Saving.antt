@@ -103,14 +103,12 @@ met_known known link r ids is cut =
     subst Q (sym (ap known at ∙ f.1)) refl)
 
 pub lapsed_copied : (m mid n : FieldModel) (p gone q : PassModel) (at : ℕ) (r : Range) (link pieces : Pieces) (ids : List KeepId)
-    (note : GoneNote) (seen other : ℕ) → ids ≡ (met link r).ids → (id : KeepId) × Contains ids id × (gone ≡ lapsed p id note)
-    → seen ≡ note.seen → other ≡ note.found → note.seen ≢ note.found → mid ≡ told m (Lapsed m.node at seen other)
+    (note : GoneNote) → ids ≡ (met link r).ids → (id : KeepId) × Contains ids id × (gone ≡ lapsed p id note)
+    → note.seen ≢ note.found → mid ≡ told m (Lapsed m.node at note.seen note.found)
     → IsCopy mid.words r pieces gone q → n ≡ told mid (Saved mid.node at kept_as.Copy)
     → IsSaved (spot m at r (Some link)) Refer (by.Copied pieces) m n p q
-lapsed_copied m mid n p gone q at r link pieces ids note seen other of one is_seen is_found differ tells copy then =
+lapsed_copied m mid n p gone q at r link pieces ids note of one differ tells copy then =
     let lapse : Event = Lapsed m.node at note.seen note.found in
-    let now : mid ≡ told m lapse =
-    tells ∙ ap (λ (v : ℕ). told m (Lapsed m.node at v other)) is_seen ∙ ap (λ (v : ℕ). told m (Lapsed m.node at note.seen v)) is_found in
     let P : List KeepId → Type 0 = λ xs. Contains xs one.0 in
     let Q : PassModel → Type 0 = λ v. IsCopy m.words r pieces v q in
     record {
@@ -119,8 +117,8 @@ lapsed_copied m mid n p gone q at r link pieces ids note seen other of one is_se
         gone = record { id = one.0; note = note };
         asked = subst P of one.1;
         differ = differ;
-        copy = subst Q one.2 (same_copy m mid lapse r pieces gone q now copy);
+        copy = subst Q one.2 (same_copy m mid lapse r pieces gone q tells copy);
         said = refl;
       };
-      told = told_and_copied m mid n at lapse now then;
+      told = told_and_copied m mid n at lapse tells then;
     }
