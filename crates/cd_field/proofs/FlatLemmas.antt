@@ -11,42 +11,12 @@ use Rattle.cd_base.specs.Places.{is_before}
 use Rattle.cd_base.specs.Words.{same_place, in_range}
 use Rattle.cd_tree.specs.Operations.{length_of}
 use Rattle.cd_field.specs.declared.flat_words.Slot.{Slot}
+use Rattle.cd_tree.proofs.Apart.{Within, within, has_place}
+use Rattle.cd_field.proofs.Choices.{by_test, not_true, chosen, other}
 use Rattle.cd_field.proofs.PlaceLemmas.{same_place-eq}
 use Rattle.cd_field.specs.Flat.{index_of, item_by, is_lost, slot_at, no_slot, IsInOrder, HasRoom, IsWhole}
 
--- ---- choices
-
-pub by_test : {P : Type 0} (b : Bool) → (b ≡ true → P) → (b ≡ false → P) → P
-by_test {P} b when unless = elim (cases_Bool b) [ inl e ↦ when e | inr e ↦ unless e ]
-
-pub not_true : (b : Bool) → (b ≡ true → ⊥) → b ≡ false
-not_true b refuted = by_test b (λ e. absurd (refuted e)) (λ e. e)
-
-pub chosen : {A : Type 0} (b : Bool) (x y : A) → b ≡ true → cond b x y ≡ x
-chosen {A} b x y e = rw e refl
-
-pub other : {A : Type 0} (b : Bool) (x y : A) → b ≡ false → cond b x y ≡ y
-other {A} b x y e = rw e refl
-
 -- ---- ranges
-
-pub record Inside (r : Range) (p : Place) : Type 0 where
-  pub region : r.region ≡ p.region
-  pub low : r.low ≤ p.index
-  pub high : p.index < r.high
-
-pub inside_from : (r : Range) (p : Place) → in_range r p ≡ true → Inside r p
-inside_from r p h =
-    let parts : ((r.region == p.region) ≡ true) × ((nat_le r.low p.index && nat_lt p.index r.high) ≡ true) = and_parts _ _ h in
-    let ends : (nat_le r.low p.index ≡ true) × (nat_lt p.index r.high ≡ true) = and_parts _ _ parts.1 in
-    record { region = grind (arith, nat_tests); low = grind (arith, nat_tests); high = grind (arith, nat_tests) }
-
-pub inside_to : (r : Range) (p : Place) → Inside r p → in_range r p ≡ true
-inside_to r p h =
-    let region : (r.region == p.region) ≡ true = eq-eqb _ _ h.region in
-    let low : nat_le r.low p.index ≡ true = (let l : r.low ≤ p.index = h.low in grind (arith, nat_tests)) in
-    let high : nat_lt p.index r.high ≡ true = (let l : p.index < r.high = h.high in grind (arith, nat_tests)) in
-    and_from _ _ region (and_from _ _ low high)
 
 abbrev ends_before : Range → Place → Bool
 ends_before r p = nat_lt r.region p.region || ((r.region == p.region) && nat_le r.high p.index)
@@ -82,31 +52,22 @@ neither_says a b l h i e f = (grind (arith, nat_tests), grind (arith, nat_tests)
 -- what ends before a place has it not, and so has what is before that
 pub ended : (r : Range) (p : Place) → ends_before r p ≡ true → in_range r p ≡ false
 ended r p e = not_true _ (λ t.
-    let i : Inside r p = inside_from r p t in
+    let i : Within r p = within r p t in
     elim (ends_says r.region p.region r.high p.index e) [
       | inl l ↦ (let region : r.region ≡ p.region = i.region in omega arith)
       | inr m ↦ (let high : p.index < r.high = i.high in omega arith)
     ])
 
+ends_earlier : (a b c high low end i : ℕ) → (nat_lt a b || ((a == b) && nat_lt high low)) ≡ true → low ≤ end
+    → (nat_lt b c || ((b == c) && nat_le end i)) ≡ true → (nat_lt a c || ((a == c) && nat_le high i)) ≡ true
+ends_earlier a b c high low end i behind proper e = grind (arith, nat_tests)
+
 pub ended_earlier : (r s : Range) (p : Place) → is_before r s ≡ true → s.low ≤ s.high → ends_before s p ≡ true → in_range r p ≡ false
-ended_earlier r s p behind proper e = not_true _ (λ t.
-    let i : Inside r p = inside_from r p t in
-    let region : r.region ≡ p.region = i.region in
-    let high : p.index < r.high = i.high in
-    elim (before_says r.region s.region r.high s.low behind) [
-      | inl l ↦ elim (ends_says s.region p.region s.high p.index e) [
-        | inl m ↦ omega arith
-        | inr m ↦ omega arith
-      ]
-      | inr l ↦ elim (ends_says s.region p.region s.high p.index e) [
-        | inl m ↦ omega arith
-        | inr m ↦ omega arith
-      ]
-    ])
+ended_earlier r s p behind proper e = ended r p (ends_earlier r.region s.region p.region r.high s.low s.high p.index behind proper e)
 
 pub begun : (r : Range) (p : Place) → begins_behind r p ≡ true → in_range r p ≡ false
 begun r p e = not_true _ (λ t.
-    let i : Inside r p = inside_from r p t in
+    let i : Within r p = within r p t in
     let region : r.region ≡ p.region = i.region in
     let low : r.low ≤ p.index = i.low in
     elim (begins_says r.region p.region r.low p.index e) [
@@ -114,31 +75,22 @@ begun r p e = not_true _ (λ t.
       | inr m ↦ omega arith
     ])
 
+begins_later : (a b c begin high low i : ℕ) → (nat_lt a b || ((a == b) && nat_lt high low)) ≡ true → begin ≤ high
+    → (nat_lt c a || ((a == c) && nat_lt i begin)) ≡ true → (nat_lt c b || ((b == c) && nat_lt i low)) ≡ true
+begins_later a b c begin high low i behind proper e = grind (arith, nat_tests)
+
 pub begun_later : (r s : Range) (p : Place) → is_before r s ≡ true → r.low ≤ r.high → begins_behind r p ≡ true → in_range s p ≡ false
-begun_later r s p behind proper e = not_true _ (λ t.
-    let i : Inside s p = inside_from s p t in
-    let region : s.region ≡ p.region = i.region in
-    let low : s.low ≤ p.index = i.low in
-    elim (before_says r.region s.region r.high s.low behind) [
-      | inl l ↦ elim (begins_says r.region p.region r.low p.index e) [
-        | inl m ↦ omega arith
-        | inr m ↦ omega arith
-      ]
-      | inr l ↦ elim (begins_says r.region p.region r.low p.index e) [
-        | inl m ↦ omega arith
-        | inr m ↦ omega arith
-      ]
-    ])
+begun_later r s p behind proper e = begun s p (begins_later r.region s.region p.region r.low r.high s.low p.index behind proper e)
 
 pub covered : (r : Range) (p : Place) → ends_before r p ≡ false → begins_behind r p ≡ false → in_range r p ≡ true
 covered r p e f =
     let n : (r.region ≡ p.region) × (r.low ≤ p.index) × (p.index < r.high) = neither_says r.region p.region r.low r.high p.index e f in
-    inside_to r p (record { region = n.0; low = n.1; high = n.2 })
+    has_place r p n.0 n.1 n.2
 
 pub apart_behind : (r s : Range) (p : Place) → is_before r s ≡ true → in_range r p ≡ true → in_range s p ≡ false
 apart_behind r s p behind h = not_true _ (λ t.
-    let i : Inside r p = inside_from r p h in
-    let j : Inside s p = inside_from s p t in
+    let i : Within r p = within r p h in
+    let j : Within s p = within s p t in
     let here : r.region ≡ p.region = i.region in
     let there : s.region ≡ p.region = j.region in
     let high : p.index < r.high = i.high in
@@ -191,8 +143,8 @@ index_one slots count p q i own at_p at_q =
     let b : Found slots q i = index_found slots q i at_q in
     let r : Range = (slot_at slots a.k).range in
     let s : Range = (slot_at slots b.k).range in
-    let in_r : Inside r p = inside_from r p a.has in
-    let in_s : Inside s q = inside_from s q b.has in
+    let in_r : Within r p = within r p a.has in
+    let in_s : Within s q = within s q b.has in
     let r_low : r.low ≤ p.index = in_r.low in
     let r_high : p.index < r.high = in_r.high in
     let s_low : s.low ≤ q.index = in_s.low in
@@ -279,7 +231,7 @@ pub stands_whole : {A : Type 0} (slots : List Slot) (items : List A) (p : Place)
 stands_whole {A} slots items p None whole e some = absurd (cc)
 stands_whole {A} slots items p (Some i) whole e some =
     let f : Found slots p i = index_found slots p i e in
-    let inside : Inside (slot_at slots f.k).range p = inside_from (slot_at slots f.k).range p f.has in
+    let inside : Within (slot_at slots f.k).range p = within (slot_at slots f.k).range p f.has in
     let region : f.k ≡ p.region = sym (whole.region f.k f.short) ∙ inside.region in
     let low : (slot_at slots f.k).range.low ≡ 0 = whole.low f.k f.short in
     let is : (slot_at slots f.k).first + (p.index - (slot_at slots f.k).range.low) ≡ i = f.is in
@@ -382,7 +334,7 @@ opened {A} slots items r item q own behind =
     (λ none. by_test (in_range r q)
     (λ t. let at : index_of (slots ++ slot ∷ []) q ≡ Some (length items + (q.index - r.low)) =
     pushed_new slots slot q none ∙ chosen (in_range r q) _ _ t in
-    let i : Inside r q = inside_from r q t in
+    let i : Within r q = within r q t in
     let low : r.low ≤ q.index = i.low in
     let high : q.index < r.high = i.high in
     ap (item_by all) at ∙ new_item items item (length_of r) (q.index - r.low) (omega arith)
@@ -392,7 +344,7 @@ opened {A} slots items r item q own behind =
     ∙ sym (other (in_range r q) (Some item) (item_by items (index_of slots q)) f)))
     (λ i at. let found : Found slots q i = index_found slots q i at in
     let here : Range = (slot_at slots found.k).range in
-    let in_here : Inside here q = inside_from here q found.has in
+    let in_here : Within here q = within here q found.has in
     let low : here.low ≤ q.index = in_here.low in
     let high : q.index < here.high = in_here.high in
     let is : (slot_at slots found.k).first + (q.index - here.low) ≡ i = found.is in

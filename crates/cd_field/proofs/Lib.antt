@@ -1,6 +1,7 @@
-mod PlaceLemmas
+pub mod Choices
+pub mod PlaceLemmas
 mod StrikeLemmas
-mod RunLemmas
+pub mod RunLemmas
 mod WorkedRuns
 mod SlotRuns
 mod FlatLemmas

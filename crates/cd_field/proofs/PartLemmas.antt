@@ -11,15 +11,8 @@ use Rattle.cd_tree.specs.declared.document.Fault.{Fault}
 use Rattle.cd_tree.specs.Scripts.{strikes_at, struck}
 use Rattle.cd_field.specs.declared.flat_words.Slot.{Slot}
 use Rattle.cd_field.specs.Flat.{slot_at, range_at}
-use Rattle.cd_field.proofs.FlatLemmas.{by_test, chosen, other, each_pushed}
-
-or_right : (a b : Bool) → b ≡ true → (a || b) ≡ true
-or_right true b e = refl
-or_right false b e = e
-
-or_left : (a b : Bool) → a ≡ true → (a || b) ≡ true
-or_left true b e = refl
-or_left false b e = absurd (cc)
+use Rattle.cd_field.proofs.Choices.{by_test, chosen, other, or_left, or_right}
+use Rattle.cd_field.proofs.FlatLemmas.{each_pushed}
 
 -- a place of the i-th range is in the ranges
 pub in_nth : (ranges : List Range) (i : ℕ) (q : Place) → i < length ranges → in_range (range_at ranges i) q ≡ true → in_ranges ranges q ≡ true

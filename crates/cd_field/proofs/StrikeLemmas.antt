@@ -35,18 +35,12 @@ struck_from faults i d id begin point strikes h e =
 struck_hit : (faults : List Fault) (i : ℕ) (d : Fault) (id : NodeId) (begin point : ℕ) (strikes : Bool) → i < length faults
     → strikes ≡ strikes_at id begin point (get_or faults i d) → strikes ≡ true
     → get_or faults i d ∷ struck (drop (i + 1) faults) id begin point ≡ struck (drop i faults) id begin point
-struck_hit faults i d id begin point strikes h e t =
-    let fault : Fault = get_or faults i d in
-    let rest : List Fault = struck (drop (i + 1) faults) id begin point in
-    ap (λ (b : Bool). if b then fault ∷ rest else rest) (sym t) ∙ sym (struck_from faults i d id begin point strikes h e)
+struck_hit faults i d id begin point strikes h e t = sym (struck_from faults i d id begin point true h (sym t ∙ e))
 
 pub struck_miss : (faults : List Fault) (i : ℕ) (d : Fault) (id : NodeId) (begin point : ℕ) (strikes : Bool) → i < length faults
     → strikes ≡ strikes_at id begin point (get_or faults i d) → strikes ≡ false
     → struck (drop (i + 1) faults) id begin point ≡ struck (drop i faults) id begin point
-struck_miss faults i d id begin point strikes h e t =
-    let fault : Fault = get_or faults i d in
-    let rest : List Fault = struck (drop (i + 1) faults) id begin point in
-    ap (λ (b : Bool). if b then fault ∷ rest else rest) (sym t) ∙ sym (struck_from faults i d id begin point strikes h e)
+struck_miss faults i d id begin point strikes h e t = sym (struck_from faults i d id begin point false h (sym t ∙ e))
 
 pub words_hit : (faults : List Fault) (i : ℕ) (d : Fault) (id : NodeId) (begin point : ℕ) (strikes : Bool) → i < length faults
     → strikes ≡ strikes_at id begin point (get_or faults i d) → strikes ≡ true

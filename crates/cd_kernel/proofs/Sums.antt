@@ -1,10 +1,13 @@
 -- Sums and greatest words taken one by one, and sums in which most terms are nothing.
-use Rattle.std.proofs.Common.{◌≡◌, ℕ, zero, suc, ◌+◌, ◌^◌, ◌<◌, ◌≤◌, max, arith, ap, sym, ◌∙◌, add-one, inl, inr}
+use Rattle.std.proofs.Common.{◌≡◌, ℕ, zero, suc, ◌+◌, ◌^◌, ◌<◌, ◌≤◌, max, arith, refl, ap, sym, ◌∙◌, add-one, inl, inr}
 use Rattle.std.proofs.Math.Nat.{add-mod-mod, mod-add-mod}
 use Rattle.std.proofs.lemmas.Bool.{cases_lt}
 use Rattle.cd_base.specs.Words.{word_of}
 use Rattle.cd_tree.specs.Operations.{total, greatest}
 use Rattle.cd_tree.proofs.SameColumns.{total-same, greatest-same}
+use Rattle.cd_kernel.specs.declared.lists.Gathering.{Gathering}
+use Rattle.cd_kernel.specs.declared.lists.Gathering.TheVariants.{Adding, Comparing}
+use Rattle.cd_kernel.specs.Computing.{gathered, gathered_on}
 
 -- terms that are nothing add nothing
 pub total-flat : (f : ℕ → ℕ) (a b : ℕ) → a ≤ b → ((j : ℕ) → a ≤ j → j < b → f j ≡ 0) → total f b ≡ total f a
@@ -64,7 +67,7 @@ greatest_parted f g a (suc n) same =
     ∙ (let all : max (greatest f (a + n)) (f (a + n)) ≡ max (greatest f a) (max (greatest g n) (g n)) = omega arith in all)
 
 -- a block of words more is compared
-pub block_compared : (f g : ℕ → ℕ) (a n m most later : ℕ) → most ≡ greatest f a → ((j : ℕ) → j < n → g j ≡ f (a + j))
+block_compared : (f g : ℕ → ℕ) (a n m most later : ℕ) → most ≡ greatest f a → ((j : ℕ) → j < n → g j ≡ f (a + j))
     → later ≡ max most (greatest g m) → m ≡ n → later ≡ greatest f (a + n)
 block_compared f g a n m most later before same after long =
     after ∙ ap (λ (k : ℕ). max most (greatest g k)) long ∙ ap (λ (v : ℕ). max v (greatest g n)) before ∙ sym (greatest_parted f g a n same)
@@ -75,7 +78,18 @@ pub sum_read : (sum later n m : ℕ) (f g : ℕ → ℕ) → ((j : ℕ) → j < 
 sum_read sum later n m f g same is long =
     is ∙ ap (λ (v : ℕ). word_of (sum + v)) (total-same f g n same ∙ ap (total g) long)
 
-pub greatest_read : (most later n m : ℕ) (f g : ℕ → ℕ) → ((j : ℕ) → j < n → f j ≡ g j) → later ≡ max most (greatest f n) → n ≡ m
-    → later ≡ max most (greatest g m)
-greatest_read most later n m f g same is long =
-    is ∙ ap (λ (v : ℕ). max most v) (greatest-same f g n same ∙ ap (greatest g) long)
+-- what is made of words a block at a time
+pub none_gathered : (gathering : Gathering) (f : ℕ → ℕ) → 0 ≡ gathered gathering f 0
+none_gathered Adding f = refl
+none_gathered Comparing f = refl
+
+pub block_gathered : (gathering : Gathering) (f g : ℕ → ℕ) (a n m before later : ℕ) → before ≡ gathered gathering f a
+    → ((j : ℕ) → j < n → g j ≡ f (a + j)) → later ≡ gathered_on gathering before g m → m ≡ n → later ≡ gathered gathering f (a + n)
+block_gathered Adding f g a n m before later is same after long = block_summed f g a n m before later is same after long
+block_gathered Comparing f g a n m before later is same after long = block_compared f g a n m before later is same after long
+
+pub gathered_read : (gathering : Gathering) (before later n m : ℕ) (f g : ℕ → ℕ) → ((j : ℕ) → j < n → f j ≡ g j)
+    → later ≡ gathered_on gathering before f n → n ≡ m → later ≡ gathered_on gathering before g m
+gathered_read Adding before later n m f g same is long = sum_read before later n m f g same is long
+gathered_read Comparing before later n m f g same is long =
+    is ∙ ap (λ (v : ℕ). max before v) (greatest-same f g n same ∙ ap (greatest g) long)

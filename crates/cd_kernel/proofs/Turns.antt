@@ -13,9 +13,10 @@ use Rattle.cd_tree.specs.Operations.{column, op_writes, length_of, nth_word, tot
 use Rattle.cd_tree.specs.Locality.{ColumnIsLocal}
 use Rattle.cd_field.specs.FieldModel.{FieldModel, IsPresent, ArePresent, laid, wrote_run}
 use Rattle.cd_kernel.specs.Computing.{run_of, IsHere, IsDirect}
-use Rattle.cd_kernel.proofs.Places.{Inside, inside_from, inside_to, by_test, same_test, or_left, or_right}
+use Rattle.cd_tree.proofs.Apart.{Within, within, has_place}
+use Rattle.cd_field.proofs.Choices.{by_test, same_test, chosen, other, or_left, or_right}
 use Rattle.cd_kernel.proofs.Sums.{block_summed}
-use Rattle.cd_kernel.proofs.Written.{words_to, first_of, chosen, other}
+use Rattle.cd_kernel.proofs.Written.{words_to, first_of}
 use Rattle.cd_kernel.proofs.Steady.{step_there, column_stays}
 
 -- writing keeps places present
@@ -51,11 +52,11 @@ laid_on op w at n words each q =
     let d : Range = op_writes op in
     let run : Range = run_of d at n in
     by_test (in_range run q)
-    (λ t. let h : Inside run q = inside_from run q t in
+    (λ t. let h : Within run q = within run q t in
     let low : d.low + at ≤ q.index = h.low in
     let high : q.index < d.low + at + n = h.high in
     let inside : in_range (first_of d (at + n)) q ≡ true =
-    inside_to (first_of d (at + n)) q (record { region = h.region; low = omega arith; high = omega arith }) in
+    has_place (first_of d (at + n)) q h.region (omega arith) (omega arith) in
     let index : at + (q.index - (d.low + at)) ≡ q.index - d.low = omega arith in
     chosen (in_range run q) (Some (get_or words (q.index - run.low) 0)) (words_to op w at q) t
     ∙ ap (λ (v : ℕ). Some v) (each (q.index - (d.low + at)) (omega arith))
@@ -63,16 +64,16 @@ laid_on op w at n words each q =
     ∙ sym (chosen (in_range (first_of d (at + n)) q) (Some (column op w (q.index - d.low))) (w q) inside))
     (λ f. let tests : in_range (first_of d at) q ≡ in_range (first_of d (at + n)) q =
     same_test _ _
-    (λ t. let h : Inside (first_of d at) q = inside_from (first_of d at) q t in
+    (λ t. let h : Within (first_of d at) q = within (first_of d at) q t in
     let high : q.index < d.low + at = h.high in
-    inside_to (first_of d (at + n)) q (record { region = h.region; low = h.low; high = omega arith }))
-    (λ t. let h : Inside (first_of d (at + n)) q = inside_from (first_of d (at + n)) q t in
+    has_place (first_of d (at + n)) q h.region h.low (omega arith))
+    (λ t. let h : Within (first_of d (at + n)) q = within (first_of d (at + n)) q t in
     let high : q.index < d.low + (at + n) = h.high in
     let low : d.low ≤ q.index = h.low in
     elim (cases_lt q.index (d.low + at)) [
-      | inl l ↦ inside_to (first_of d at) q (record { region = h.region; low = low; high = l })
+      | inl l ↦ has_place (first_of d at) q h.region low l
       | inr l ↦
-          let in_run : in_range run q ≡ true = inside_to run q (record { region = h.region; low = l; high = omega arith }) in
+          let in_run : in_range run q ≡ true = has_place run q h.region l (omega arith) in
           absurd (cc)
     ]) in
     other (in_range run q) (Some (get_or words (q.index - run.low) 0)) (words_to op w at q) f
