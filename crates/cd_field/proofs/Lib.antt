@@ -1,5 +1,4 @@
-pub mod Choices
-pub mod PlaceLemmas
+mod PlaceLemmas
 mod StrikeLemmas
 pub mod RunLemmas
 mod WorkedRuns

@@ -1,7 +1,7 @@
 -- Runs of words: read one by one into a list, and laid over a range one by one.
 use Rattle.std.proofs.Common.{◌≡◌, ℕ, ◌+◌, ◌-◌, ◌<◌, ◌≤◌, max, ◌&&◌, ◌||◌, nat_lt, nat_le, ◌==◌, Bool, true, false, if◌then◌else◌, List, [], ◌∷◌, length, map, set, get_or, Option, Some, IsSome, unwrap_or, refl, ap, ap₂, sym, subst, ◌∙◌, arith, inl, inr}
 use Rattle.std.specs.List.{range_with_len}
-use Rattle.std.proofs.lemmas.Bool.{cases_lt}
+use Rattle.std.proofs.lemmas.Bool.{cases_lt, cond-true, cond-false, or_left}
 use Rattle.std.proofs.lemmas.Bool.Decides.{nat_tests}
 use Rattle.std.proofs.lemmas.List.{ext_get_or, get_or-set_same, get_or-set_other}
 use Rattle.std.proofs.lemmas.List.FromFn.{length-map-range_with_len, get_or-map-range_with_len}
@@ -11,7 +11,7 @@ use Rattle.cd_base.specs.declared.place.Range.{Range}
 use Rattle.cd_base.specs.Words.{Words, PlaceSet, word_at, same_place, in_range}
 use Rattle.cd_tree.specs.Operations.{length_of, nth_word}
 use Rattle.cd_field.specs.FieldModel.{FieldModel, ArePresent, refilled_word, laid, words_in, wrote_run, refilled_run}
-use Rattle.cd_field.proofs.Choices.{by_test, chosen, other, or_left}
+use Rattle.cd_base.proofs.BoolLemmas.{by_test}
 use Rattle.cd_field.proofs.PlaceLemmas.{choice_at, choice_or, range_none}
 
 -- ---- reading
@@ -92,8 +92,8 @@ pub refilled_present : (m : FieldModel) (r : Range) (words : List ℕ) → ArePr
 refilled_present m r words present =
     ap (λ (l : PlaceSet). record m { words = laid m.words r words; lost = l })
     (fun_ext (λ q. by_test (in_range r q)
-    (λ t. chosen (in_range r q) false (m.lost q) t ∙ sym (present q (or_left (in_range r q) false t)).here)
-    (λ f. other (in_range r q) false (m.lost q) f)))
+    (λ t. cond-true (in_range r q) false (m.lost q) t ∙ sym (present q (or_left (in_range r q) false t)).here)
+    (λ f. cond-false (in_range r q) false (m.lost q) f)))
 
 pub refilled_none : (m : FieldModel) (r : Range) (words : List ℕ) → m ≡ refilled_run m (record r { high = r.low }) words
 refilled_none m r words =

@@ -2,7 +2,7 @@
 use Rattle.std.proofs.Common.{◌≡◌, ℕ, ◌+◌, ◌-◌, ◌<◌, ◌≤◌, Bool, true, false, if◌then◌else◌, List, ◌++◌, length, take, drop, get_or, replicate, Option, None, Some, IsSome, unwrap_or, refl, ap, sym, subst, ◌∙◌, arith, inl, inr}
 use Rattle.std.specs.Prelude.{slice_get}
 use Rattle.std.specs.List.{splice}
-use Rattle.std.proofs.lemmas.Bool.{cases_lt}
+use Rattle.std.proofs.lemmas.Bool.{cases_lt, cond-true, cond-false}
 use Rattle.std.proofs.lemmas.List.{get_or-take, get_or-drop, get_or_append_left, get_or-append_right, length-take, length-drop, length-append, length-replicate, get_or-replicate}
 use Rattle.std.proofs.lemmas.Option.{slice_get-get_or, slice_get_past, unwrap_or-slice_get}
 use Rattle.cd_base.specs.declared.place.Place.{Place}
@@ -11,8 +11,8 @@ use Rattle.cd_base.specs.Words.{in_range, same_place}
 use Rattle.cd_tree.specs.Operations.{length_of, nth_word}
 use Rattle.cd_field.specs.declared.flat_words.Slot.{Slot}
 use Rattle.cd_field.specs.Flat.{index_of, item_by, is_lost, flat_words, slot_at, IsInOrder, HasRoom}
-use Rattle.cd_tree.proofs.Apart.{Within, within, has_place}
-use Rattle.cd_field.proofs.Choices.{by_test, chosen, other}
+use Rattle.cd_base.proofs.PlaceLemmas.{Inside, inside_from, inside_to}
+use Rattle.cd_base.proofs.BoolLemmas.{by_test}
 use Rattle.cd_field.proofs.PlaceLemmas.{same_place-eq}
 use Rattle.cd_field.proofs.FlatLemmas.{Found, index_found, index_in_slot, index_one, item_there, stands_within, before_says, by_option, lost_choice}
 
@@ -44,18 +44,18 @@ run_within : {A : Type 0} (slots : List Slot) (items : List A) (r : Range) (k : 
     → in_range (slot_at slots k).range (first_place r) ≡ true → r.high ≤ (slot_at slots k).range.high
 run_within {A} slots items r k order known short has =
     let s : Range = (slot_at slots k).range in
-    let i : Within s (first_place r) = within s (first_place r) has in
+    let i : Inside s (first_place r) = inside_from s (first_place r) has in
     let region : s.region ≡ r.region = i.region in
     let low : s.low ≤ r.low = i.low in
     let high : r.low < s.high = i.high in
     elim (cases_lt s.high r.high) [
       | inl l ↦
           let q : Place = record { region = r.region; index = s.high } in
-          let in_r : in_range r q ≡ true = has_place r q refl (omega arith) l in
+          let in_r : in_range r q ≡ true = inside_to r q (record { region = refl; low = omega arith; high = l }) in
           let there : Standing slots q = standing slots items q (known q in_r) in
           let b : Found slots q there.index = index_found slots q there.index there.is in
           let t : Range = (slot_at slots b.k).range in
-          let j : Within t q = within t q b.has in
+          let j : Inside t q = inside_from t q b.has in
           let t_region : t.region ≡ r.region = j.region in
           let t_low : t.low ≤ s.high = j.low in
           let t_high : s.high < t.high = j.high in
@@ -78,19 +78,19 @@ run_within {A} slots items r k order known short has =
       | inr l ↦ omega arith
     ]
 
--- the places of a run stand one behind the other
+-- the places of a run stand one after the other
 pub run_stands : {A : Type 0} (slots : List Slot) (items : List A) (r : Range) (i : ℕ) → IsInOrder slots → HasItems slots items r
     → index_of slots (first_place r) ≡ Some i → (q : Place) → in_range r q ≡ true → index_of slots q ≡ Some (i + (q.index - r.low))
 run_stands {A} slots items r i order known at q in_r =
     let a : Found slots (first_place r) i = index_found slots (first_place r) i at in
     let s : Range = (slot_at slots a.k).range in
-    let h : Within s (first_place r) = within s (first_place r) a.has in
-    let j : Within r q = within r q in_r in
+    let h : Inside s (first_place r) = inside_from s (first_place r) a.has in
+    let j : Inside r q = inside_from r q in_r in
     let within : r.high ≤ s.high = run_within slots items r a.k order known a.short a.has in
     let s_low : s.low ≤ r.low = h.low in
     let q_low : r.low ≤ q.index = j.low in
     let q_high : q.index < r.high = j.high in
-    let in_s : in_range s q ≡ true = has_place s q (h.region ∙ j.region) (omega arith) (omega arith) in
+    let in_s : in_range s q ≡ true = inside_to s q (record { region = h.region ∙ j.region; low = omega arith; high = omega arith }) in
     let is : (slot_at slots a.k).first + (r.low - s.low) ≡ i = a.is in
     let to : (slot_at slots a.k).first + (q.index - s.low) ≡ i + (q.index - r.low) = omega arith in
     sym (index_in_slot slots q a.k (slot_at slots a.k) order a.short refl in_s) ∙ ap (λ (n : ℕ). Some n) to
@@ -100,7 +100,7 @@ pub run_room : {A : Type 0} (slots : List Slot) (items : List A) (r : Range) (i 
     → index_of slots (first_place r) ≡ Some i → r.low < r.high → i + length_of r ≤ length items
 run_room {A} slots items r i order known at full =
     let q : Place = record { region = r.region; index = r.high - 1 } in
-    let in_r : in_range r q ≡ true = has_place r q refl (omega arith) (omega arith) in
+    let in_r : in_range r q ≡ true = inside_to r q (record { region = refl; low = omega arith; high = omega arith }) in
     let short : i + ((r.high - 1) - r.low) < length items =
     stands_within slots items q (i + ((r.high - 1) - r.low)) (run_stands slots items r i order known at q in_r) (known q in_r) in
     omega arith
@@ -112,7 +112,7 @@ pub run_word : (slots : List Slot) (words : List ℕ) (r : Range) (i : ℕ) → 
     → get_or (take (length_of r) (drop i words)) j 0 ≡ nth_word (flat_words slots words) r j
 run_word slots words r i order known at j short =
     let q : Place = record { region = r.region; index = r.low + j } in
-    let in_r : in_range r q ≡ true = has_place r q refl (omega arith) (omega arith) in
+    let in_r : in_range r q ≡ true = inside_to r q (record { region = refl; low = omega arith; high = omega arith }) in
     let to : i + ((r.low + j) - r.low) ≡ i + j = omega arith in
     let stands : index_of slots q ≡ Some (i + j) = run_stands slots words r i order known at q in_r ∙ ap (λ (n : ℕ). Some n) to in
     get_or-take (length_of r) (drop i words) j 0 short
@@ -185,7 +185,7 @@ spliced_out {A} items run i k d room out =
 
 -- the place of a run that stands so far behind its first
 in_run : (r : Range) (n : ℕ) → n < length_of r → in_range r (record { region = r.region; index = r.low + n }) ≡ true
-in_run r n short = has_place r (record { region = r.region; index = r.low + n }) refl (omega arith) (omega arith)
+in_run r n short = inside_to r (record { region = r.region; index = r.low + n }) (record { region = refl; low = omega arith; high = omega arith })
 
 same_in : (r : Range) (p q : Place) → same_place p q ≡ true → in_range r p ≡ true → in_range r q ≡ true
 same_in r p q same h = let P : Place → Type 0 = λ v. in_range r v ≡ true in subst P (same_place-eq p q same) h
@@ -213,18 +213,18 @@ item_laid {A} slots items run r i d q own order known at full long =
     let enough : i + length_of r ≤ length items = run_room slots items r i order known at full in
     let room : i + length run ≤ length items = omega arith in
     by_test (in_range r q)
-    (λ t. let j : Within r q = within r q t in
+    (λ t. let j : Inside r q = inside_from r q t in
     let low : r.low ≤ q.index = j.low in
     let high : q.index < r.high = j.high in
     ap (item_by all) (run_stands slots items r i order known at q t)
     ∙ spliced_in items run i (q.index - r.low) d room (omega arith)
-    ∙ sym (chosen (in_range r q) (Some (get_or run (q.index - r.low) d)) (item_by items (index_of slots q)) t))
+    ∙ sym (cond-true (in_range r q) (Some (get_or run (q.index - r.low) d)) (item_by items (index_of slots q)) t))
     (λ f. by_option (index_of slots q)
     (λ none. ap (item_by all) none ∙ sym (ap (item_by items) none))
     (λ k e. ap (item_by all) e
     ∙ spliced_out items run i k d room (λ from to. apart_from slots items r i k q own order known at e f from (omega arith))
     ∙ sym (ap (item_by items) e))
-    ∙ sym (other (in_range r q) (Some (get_or run (q.index - r.low) d)) (item_by items (index_of slots q)) f))
+    ∙ sym (cond-false (in_range r q) (Some (get_or run (q.index - r.low) d)) (item_by items (index_of slots q)) f))
 
 -- one item for all places of a run
 filled : {A : Type 0} (b : Bool) (n j : ℕ) (item : A) (o : Option A) → (b ≡ true → j < n)
@@ -241,7 +241,7 @@ flags_laid slots away r i n q own order known at full long =
     let run : List Bool = replicate n false in
     let count : length run ≡ n = length-replicate n false in
     let inside : in_range r q ≡ true → q.index - r.low < n =
-    λ t. (let j : Within r q = within r q t in
+    λ t. (let j : Inside r q = inside_from r q t in
     let low : r.low ≤ q.index = j.low in
     let high : q.index < r.high = j.high in
     omega arith) in
@@ -255,7 +255,7 @@ pub first_has : {A : Type 0} (slots : List Slot) (items : List A) (r : Range) (p
     → p ≡ first_place r → IsSome (item_by items (index_of slots p))
 first_has {A} slots items r p known full is =
     let P : Place → Type 0 = λ v. IsSome (item_by items (index_of slots v)) in
-    subst P (sym is) (known (first_place r) (has_place r (first_place r) refl (omega arith) full))
+    subst P (sym is) (known (first_place r) (inside_to r (first_place r) (record { region = refl; low = omega arith; high = full })))
 
 -- what ends within one list ends within another that is as long
 pub within_lists : (end a b : ℕ) → a ≡ b → end ≤ a → (end ≤ a) × (end ≤ b)

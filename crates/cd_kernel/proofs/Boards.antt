@@ -9,17 +9,17 @@ use Rattle.cd_tree.specs.declared.document.Region.{Region}
 use Rattle.cd_tree.specs.Meaning.{initial}
 use Rattle.cd_field.specs.FieldModel.{FieldModel, ArePresent, loaded}
 use Rattle.cd_kernel.specs.Board.{board, HasBoard, IsOnBoard}
-use Rattle.cd_tree.proofs.Apart.{Within, within, has_place}
-use Rattle.cd_field.proofs.Choices.{by_test}
+use Rattle.cd_base.proofs.PlaceLemmas.{Inside, inside_from, inside_to}
+use Rattle.cd_base.proofs.BoolLemmas.{by_test}
 
 -- a place of a range on the board is on the board
 in_board : (r : Range) (p : Place) → IsOnBoard r → in_range r p ≡ true → in_range board p ≡ true
 in_board r p on h =
-    let i : Within r p = within r p h in
+    let i : Inside r p = inside_from r p h in
     let region : r.region ≡ 0 = on.region in
     let high : r.high ≤ 64 = on.high in
     let short : p.index < r.high = i.high in
-    has_place board p (sym region ∙ i.region) (omega arith) (omega arith)
+    inside_to board p (record { region = sym region ∙ i.region; low = omega arith; high = omega arith })
 
 pub on_board : (m : FieldModel) (ranges : List Range) → HasBoard m → All IsOnBoard ranges → ArePresent m ranges
 on_board m [] has on p h = absurd (cc)

@@ -7,7 +7,7 @@ use Rattle.cd_base.specs.Words.{Words, word_of}
 use Rattle.cd_tree.specs.Operations.{length_of, nth_word, total, product_at}
 use Rattle.cd_tree.proofs.SameColumns.{total-same}
 use Rattle.cd_field.specs.FieldModel.{words_in}
-use Rattle.cd_field.proofs.Choices.{by_test}
+use Rattle.cd_base.proofs.BoolLemmas.{by_test}
 use Rattle.cd_field.proofs.RunLemmas.{words_long, word_read}
 use Rattle.cd_kernel.specs.Computing.{row_at}
 use Rattle.cd_kernel.proofs.Sums.{total-flat, sum_more}
@@ -120,3 +120,20 @@ row_of_words w s c v x i starts columns values vector inside same are_starts are
     (λ p short. row_same (nth_word w s i) (nth_word w s (i + 1)) (length_of x) columns_of values_of vector_of (nth_word w c) (nth_word w v)
     (nth_word w x) p (word_read w c columns are_columns p (omega arith)) (word_read w v values are_values p short)
     (λ j below. word_read w x vector are_vector j below))
+
+-- the same for the words of ranges
+pub product_begun : (w : Words) (s c v x : Range) (i first count : ℕ) → first ≡ min (nth_word w s i) count
+    → 0 ≡ word_of (total (product_at w s c v x i) first)
+product_begun w s c v x i first count cut =
+    row_begun (nth_word w s i) (nth_word w s (i + 1)) (length_of x) (nth_word w c) (nth_word w v) (nth_word w x) first count cut
+
+pub product_more : (w : Words) (s c v x : Range) (i p first last count sum term later : ℕ)
+    → first ≡ min (nth_word w s i) count → last ≡ min (nth_word w s (i + 1)) count → first ≤ p → p < last
+    → sum ≡ word_of (total (product_at w s c v x i) p)
+    → term ≡ (if nat_lt (nth_word w c p) (length_of x) then word_of (nth_word w v p * nth_word w x (nth_word w c p)) else 0)
+    → later ≡ word_of (sum + term) → later ≡ word_of (total (product_at w s c v x i) (p + 1))
+product_more w s c v x i = row_more (nth_word w s i) (nth_word w s (i + 1)) (length_of x) (nth_word w c) (nth_word w v) (nth_word w x)
+
+pub product_done : (w : Words) (s c v x : Range) (i p last count sum : ℕ) → last ≡ min (nth_word w s (i + 1)) count → last ≤ p → p ≤ count
+    → sum ≡ word_of (total (product_at w s c v x i) p) → sum ≡ word_of (total (product_at w s c v x i) count)
+product_done w s c v x i = row_done (nth_word w s i) (nth_word w s (i + 1)) (length_of x) (nth_word w c) (nth_word w v) (nth_word w x)

@@ -8,21 +8,18 @@ use Rattle.cd_base.specs.Words.{Words, word_at, in_range}
 use Rattle.cd_tree.specs.Operations.{length_of, nth_word}
 use Rattle.cd_field.specs.FieldModel.{FieldModel, ArePresent, words_in}
 use Rattle.cd_kernel.specs.Computing.{run_of, IsHere}
-use Rattle.cd_tree.proofs.Apart.{Within, within, has_place}
-
-or_none : (b : Bool) → (b || false) ≡ true → b ≡ true
-or_none true e = refl
-or_none false e = e
+use Rattle.cd_base.proofs.BoolLemmas.{or-none}
+use Rattle.cd_base.proofs.PlaceLemmas.{Inside, inside_from, inside_to}
 
 -- a run of a range that is there is present
 pub run_present : (m : FieldModel) (r run : Range) (at n : ℕ) → run ≡ run_of r at n → at + n ≤ length_of r → IsHere m r → ArePresent m (run ∷ [])
 run_present m r run at n is inside here p h =
     let P : Range → Type 0 = λ v. in_range v p ≡ true in
-    let t : in_range (run_of r at n) p ≡ true = subst P is (or_none (in_range run p) h) in
-    let i : Within (run_of r at n) p = within (run_of r at n) p t in
+    let t : in_range (run_of r at n) p ≡ true = subst P is (sym (or-none (in_range run p)) ∙ h) in
+    let i : Inside (run_of r at n) p = inside_from (run_of r at n) p t in
     let low : r.low + at ≤ p.index = i.low in
     let high : p.index < r.low + at + n = i.high in
-    here.each p (has_place r p i.region (omega arith) (omega arith))
+    here.each p (inside_to r p (record { region = i.region; low = omega arith; high = omega arith }))
 
 -- a word of a run
 pub run_word : (w : Words) (r run : Range) (at n : ℕ) (words : List ℕ) → run ≡ run_of r at n → words ≡ words_in w run

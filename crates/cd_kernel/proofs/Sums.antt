@@ -1,12 +1,13 @@
 -- Sums and greatest words taken one by one, and sums in which most terms are nothing.
-use Rattle.std.proofs.Common.{◌≡◌, ℕ, zero, suc, ◌+◌, ◌^◌, ◌<◌, ◌≤◌, max, arith, refl, ap, sym, ◌∙◌, add-one, inl, inr}
+use Rattle.std.proofs.Common.{◌≡◌, ℕ, zero, suc, ◌+◌, ◌*◌, ◌^◌, ◌<◌, ◌≤◌, max, arith, refl, ap, sym, ◌∙◌, add-one, inl, inr}
 use Rattle.std.proofs.Math.Nat.{add-mod-mod, mod-add-mod}
 use Rattle.std.proofs.lemmas.Bool.{cases_lt}
-use Rattle.cd_base.specs.Words.{word_of}
-use Rattle.cd_tree.specs.Operations.{total, greatest}
+use Rattle.cd_base.specs.declared.place.Range.{Range}
+use Rattle.cd_base.specs.Words.{Words, word_of}
+use Rattle.cd_tree.specs.Operations.{total, greatest, nth_word}
 use Rattle.cd_tree.proofs.SameColumns.{total-same, greatest-same}
-use Rattle.cd_kernel.specs.declared.lists.Gathering.{Gathering}
-use Rattle.cd_kernel.specs.declared.lists.Gathering.TheVariants.{Adding, Comparing}
+use Rattle.cd_kernel.specs.declared.totals.Gathering.{Gathering}
+use Rattle.cd_kernel.specs.declared.totals.Gathering.TheVariants.{Adding, Multiplying, Comparing}
 use Rattle.cd_kernel.specs.Computing.{gathered, gathered_on}
 
 -- terms that are nothing add nothing
@@ -78,18 +79,23 @@ pub sum_read : (sum later n m : ℕ) (f g : ℕ → ℕ) → ((j : ℕ) → j < 
 sum_read sum later n m f g same is long =
     is ∙ ap (λ (v : ℕ). word_of (sum + v)) (total-same f g n same ∙ ap (total g) long)
 
+pub greatest_read : (most later n m : ℕ) (f g : ℕ → ℕ) → ((j : ℕ) → j < n → f j ≡ g j) → later ≡ max most (greatest f n) → n ≡ m
+    → later ≡ max most (greatest g m)
+greatest_read most later n m f g same is long =
+    is ∙ ap (λ (v : ℕ). max most v) (greatest-same f g n same ∙ ap (greatest g) long)
+
 -- what is made of words a block at a time
-pub none_gathered : (gathering : Gathering) (f : ℕ → ℕ) → 0 ≡ gathered gathering f 0
-none_gathered Adding f = refl
-none_gathered Comparing f = refl
+pub none_gathered : (gathering : Gathering) (w : Words) (x : Range) → 0 ≡ gathered gathering w x 0
+none_gathered Adding w x = refl
+none_gathered (Multiplying z) w x = refl
+none_gathered Comparing w x = refl
 
-pub block_gathered : (gathering : Gathering) (f g : ℕ → ℕ) (a n m before later : ℕ) → before ≡ gathered gathering f a
-    → ((j : ℕ) → j < n → g j ≡ f (a + j)) → later ≡ gathered_on gathering before g m → m ≡ n → later ≡ gathered gathering f (a + n)
-block_gathered Adding f g a n m before later is same after long = block_summed f g a n m before later is same after long
-block_gathered Comparing f g a n m before later is same after long = block_compared f g a n m before later is same after long
-
-pub gathered_read : (gathering : Gathering) (before later n m : ℕ) (f g : ℕ → ℕ) → ((j : ℕ) → j < n → f j ≡ g j)
-    → later ≡ gathered_on gathering before f n → n ≡ m → later ≡ gathered_on gathering before g m
-gathered_read Adding before later n m f g same is long = sum_read before later n m f g same is long
-gathered_read Comparing before later n m f g same is long =
-    is ∙ ap (λ (v : ℕ). max before v) (greatest-same f g n same ∙ ap (greatest g) long)
+pub block_gathered : (gathering : Gathering) (w : Words) (x : Range) (a n m before later : ℕ) → before ≡ gathered gathering w x a
+    → later ≡ gathered_on gathering w x a before m → m ≡ n → later ≡ gathered gathering w x (a + n)
+block_gathered Adding w x a n m before later is after long =
+    block_summed (nth_word w x) (λ j. nth_word w x (a + j)) a n m before later is (λ j short. refl) after long
+block_gathered (Multiplying z) w x a n m before later is after long =
+    block_summed (λ j. nth_word w x j * nth_word w z j) (λ j. nth_word w x (a + j) * nth_word w z (a + j)) a n m before later is
+    (λ j short. refl) after long
+block_gathered Comparing w x a n m before later is after long =
+    block_compared (nth_word w x) (λ j. nth_word w x (a + j)) a n m before later is (λ j short. refl) after long

@@ -7,8 +7,8 @@ use Rattle.cd_base.specs.Words.{Words, in_range, same_place, put}
 use Rattle.cd_tree.specs.declared.operation.Op.{Op}
 use Rattle.cd_tree.specs.Operations.{column, op_meaning, op_writes, length_of, IsFull, IsInStep}
 use Rattle.cd_kernel.specs.Computing.{nth_place}
-use Rattle.cd_tree.proofs.Apart.{Within, within, has_place}
-use Rattle.cd_field.proofs.Choices.{not_true, other}
+use Rattle.cd_base.proofs.PlaceLemmas.{Inside, inside_from, inside_to}
+use Rattle.std.proofs.lemmas.Bool.{cond-false, false_from_ne_true}
 
 -- the first n places of a range
 abbrev pub first_of : Range → ℕ → Range
@@ -20,8 +20,8 @@ words_to op w n = λ p. if in_range (first_of (op_writes op) n) p then Some (col
 
 pub none_written : (op : Op) (w : Words) → words_to op w 0 ≡ w
 none_written op w = fun_ext (λ p.
-    other (in_range (first_of (op_writes op) 0) p) _ _
-    (not_true _ (λ t. let h : Within (first_of (op_writes op) 0) p = within _ _ t in
+    cond-false (in_range (first_of (op_writes op) 0) p) _ _
+    (false_from_ne_true _ (λ t. let h : Inside (first_of (op_writes op) 0) p = inside_from _ _ t in
     let low : (op_writes op).low ≤ p.index = h.low in let high : p.index < (op_writes op).low + 0 = h.high in omega arith)))
 
 -- with all words written, the operation is done
@@ -37,16 +37,16 @@ pub still_there : (op : Op) (w : Words) (x : Range) (n i : ℕ) → IsInStep (op
 still_there op w x n i step ahead short =
     let d : Range = op_writes op in
     let p : Place = nth_place x i in
-    other (in_range (first_of d n) p) _ _ (not_true _ (λ t.
-    let h : Within (first_of d n) p = within _ _ t in
+    cond-false (in_range (first_of d n) p) _ _ (false_from_ne_true _ (λ t.
+    let h : Inside (first_of d n) p = inside_from _ _ t in
     let high : x.low + i < d.low + n = h.high in
     let low : d.low ≤ x.low + i = h.low in
     elim step.1 [
       | inl same ↦ let e : x.low ≡ d.low = ap (λ (r : Range). r.low) same in omega arith
       | inr apart ↦
           let long : x.high - x.low ≡ d.high - d.low = step.0 in
-          let in_d : in_range d p ≡ true = has_place d p h.region low (omega (arith, high)) in
-          let in_x : in_range x p ≡ true = has_place x p refl (omega arith) (omega arith) in
+          let in_d : in_range d p ≡ true = inside_to d p (record { region = h.region; low = low; high = omega (arith, high) }) in
+          let in_x : in_range x p ≡ true = inside_to x p (record { region = refl; low = omega arith; high = omega arith }) in
           let out : in_range x p ≡ false = apart p in_d in
           cc
     ]))

@@ -2,15 +2,15 @@
 use Rattle.std.specs.Prelude.{◌≡◌, ℕ, ◌+◌, ◌-◌, ◌*◌, ◌^◌, max, true, ◌&&◌, nat_le, nat_lt, if◌then◌else◌}
 use Rattle.cd_base.specs.declared.place.Place.{Place}
 use Rattle.cd_base.specs.declared.place.Range.{Range}
-use Rattle.cd_base.specs.Words.{in_range, word_of}
+use Rattle.cd_base.specs.Words.{Words, in_range, word_of}
 use Rattle.cd_tree.specs.declared.operation.Op.{Op}
 use Rattle.cd_tree.specs.declared.operation.Op.TheVariants.{Scan}
-use Rattle.cd_tree.specs.Operations.{greatest, op_meaning, total}
+use Rattle.cd_tree.specs.Operations.{greatest, length_of, nth_word, op_meaning, total}
 use Rattle.cd_field.specs.FieldModel.{FieldModel, IsPresent}
-use Rattle.cd_kernel.specs.declared.lists.Gathering.{Gathering}
-use Rattle.cd_kernel.specs.declared.lists.Gathering.TheVariants.{Adding, Comparing}
+use Rattle.cd_kernel.specs.declared.totals.Gathering.{Gathering}
+use Rattle.cd_kernel.specs.declared.totals.Gathering.TheVariants.{Adding, Multiplying, Comparing}
 use Rattle.cd_kernel.specs.declared.lists.Pairing.{Pairing}
-use Rattle.cd_kernel.specs.declared.lists.Pairing.TheVariants.{Sum, Difference, Product, Multiple}
+use Rattle.cd_kernel.specs.declared.lists.Pairing.TheVariants.{Plus, Minus, Times, Multiple}
 
 -- the machine after an operation: its words have changed, and nothing else
 abbrev pub computed : FieldModel → Op → FieldModel
@@ -35,20 +35,27 @@ IsDirect _ = Unit {0}
 
 -- what is made of two words
 abbrev pub paired : Pairing → ℕ → ℕ → ℕ
-paired Sum a b = word_of (a + b)
-paired Difference a b = word_of (a + (2 ^ 64 - b))
-paired Product a b = word_of (a * b)
+paired Plus a b = word_of (a + b)
+paired Minus a b = word_of (a + (2 ^ 64 - b))
+paired Times a b = word_of (a * b)
 paired (Multiple factor) a b = word_of (a + factor * b)
 
--- what is made of n words: their sum, or the greatest of them
-abbrev pub gathered : Gathering → (ℕ → ℕ) → ℕ → ℕ
-gathered Adding f n = word_of (total f n)
-gathered Comparing f n = greatest f n
+-- what is made of the first n words of a range: their sum, the sum of their products with those of another, or the greatest
+abbrev pub gathered : Gathering → Words → Range → ℕ → ℕ
+gathered Adding w x n = word_of (total (nth_word w x) n)
+gathered (Multiplying z) w x n = word_of (total (λ j. nth_word w x j * nth_word w z j) n)
+gathered Comparing w x n = greatest (nth_word w x) n
 
--- the same where words before them gave one already
-abbrev pub gathered_on : Gathering → ℕ → (ℕ → ℕ) → ℕ → ℕ
-gathered_on Adding before f n = word_of (before + total f n)
-gathered_on Comparing before f n = max before (greatest f n)
+-- the same of n words from the at-th on, where the words before them gave one already
+abbrev pub gathered_on : Gathering → Words → Range → ℕ → ℕ → ℕ → ℕ
+gathered_on Adding w x at before n = word_of (before + total (λ j. nth_word w x (at + j)) n)
+gathered_on (Multiplying z) w x at before n = word_of (before + total (λ j. nth_word w x (at + j) * nth_word w z (at + j)) n)
+gathered_on Comparing w x at before n = max before (greatest (λ j. nth_word w x (at + j)) n)
+
+-- another range is as long, and there too
+abbrev pub CanGather : FieldModel → Range → Gathering → Type 0
+CanGather m x (Multiplying z) = (length_of x ≡ length_of z) × IsHere m z
+CanGather m x _ = Unit {0}
 
 -- what position p gives to a row from a start up to an end: nothing where it is not in the row, or its column is not below n
 abbrev pub row_at : ℕ → ℕ → ℕ → (ℕ → ℕ) → (ℕ → ℕ) → (ℕ → ℕ) → ℕ → ℕ

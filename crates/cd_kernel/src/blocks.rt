@@ -4,9 +4,9 @@ ghost use Rattle.cd_base.specs.Words.{word_of};
 ghost use Rattle.cd_tree.specs.Operations.{column, length_of, nth_word, op_reads, op_writes, FitsShape, IsFull};
 ghost use Rattle.cd_kernel.specs.Computing.{paired, IsDirect, IsHere};
 
-use crate::lists::{Gathering, Pairing, fill_with, pair, weigh};
+use crate::lists::{Pairing, fill_with, pair, weigh};
 use crate::sparse::row_products;
-use crate::totals::{gather, sum_of_products};
+use crate::totals::{Gathering, gather};
 use crate::words::{read_from, run_from};
 use cd_base::Range;
 use cd_field::Field;
@@ -33,9 +33,9 @@ pub(crate) fn block_words<F: Field>(
     match *op {
         Op::Fill(_, word) => fill_with(words, word),
         Op::Copy(_, x) => read_from(x, at, words, field),
-        Op::Add(_, x, z) => from_two(Pairing::Sum, x, z, at, words, more, other, field),
-        Op::Sub(_, x, z) => from_two(Pairing::Difference, x, z, at, words, more, other, field),
-        Op::Mul(_, x, z) => from_two(Pairing::Product, x, z, at, words, more, other, field),
+        Op::Add(_, x, z) => from_two(Pairing::Plus, x, z, at, words, more, other, field),
+        Op::Sub(_, x, z) => from_two(Pairing::Minus, x, z, at, words, more, other, field),
+        Op::Mul(_, x, z) => from_two(Pairing::Times, x, z, at, words, more, other, field),
         Op::Axpy(d, factor, x) => from_two(
             Pairing::Multiple(factor),
             d,
@@ -48,7 +48,7 @@ pub(crate) fn block_words<F: Field>(
         ),
         Op::Scan(..) => unreachable!(),
         Op::Sum(_, x) => fill_with(words, gather(Gathering::Adding, x, field)),
-        Op::Dot(_, x, z) => fill_with(words, sum_of_products(x, z, field)),
+        Op::Dot(_, x, z) => fill_with(words, gather(Gathering::Multiplying(z), x, field)),
         Op::Max(_, x) => fill_with(words, gather(Gathering::Comparing, x, field)),
         Op::Stencil(_, a, b, c, x) => weighted(a, b, c, x, at, words, more, field),
         Op::Spmv(_, s, c, v, x) => row_products(s, c, v, x, at, words, field),

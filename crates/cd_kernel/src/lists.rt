@@ -1,85 +1,51 @@
 // What operations make of lists of words.
-ghost use Rattle.std.specs.Prelude.{◌≡◌, ℕ, ◌+◌, ◌-◌, ◌*◌, ◌^◌, ◌<◌, length, max, slice_index};
+ghost use Rattle.std.specs.Prelude.{◌≡◌, ℕ, ◌+◌, ◌*◌, ◌<◌, length, max, slice_index};
 ghost use Rattle.cd_base.specs.Words.{word_of};
 ghost use Rattle.cd_tree.specs.Operations.{greatest, total};
-ghost use Rattle.cd_kernel.specs.Computing.{gathered_on, paired};
+ghost use Rattle.cd_kernel.specs.Computing.{paired};
 
 /// What is made of two words: their sum, their difference, their product, or the first and a multiple of the second.
 #[derive(Debug, Clone, Copy)]
 pub(crate) enum Pairing {
-    Sum,
-    Difference,
-    Product,
+    Plus,
+    Minus,
+    Times,
     Multiple(u64),
 }
 
-/// Each word becomes what is made of the words of two other lists at its index.
+/// Each word becomes what is made of the words of two other lists at its index. There is a loop for each pairing, so that
+/// none asks at each word which it is.
 pub(crate) fn pair(pairing: Pairing, words: &mut [u64], xs: &[u64], zs: &[u64])
     requires { (length words.old ≡ length xs.now) × (length words.old ≡ length zs.now) }
     ensures { (j : ℕ) → j < length words.new → slice_index words.new j ≡ paired pairing (slice_index xs.now j) (slice_index zs.now j) }
 {
     match pairing {
-        Pairing::Sum => join(
-            words,
-            xs,
-            zs,
-            |a: u64, b: u64| -> u64
-                ensures { result ≡ word_of (a + b) }
-            { a.wrapping_add(b) },
-        ),
-        Pairing::Difference => join(
-            words,
-            xs,
-            zs,
-            |a: u64, b: u64| -> u64
-                ensures { result ≡ word_of (a + (2 ^ 64 - b)) }
-            { a.wrapping_sub(b) },
-        ),
-        Pairing::Product => join(
-            words,
-            xs,
-            zs,
-            |a: u64, b: u64| -> u64
-                ensures { result ≡ word_of (a * b) }
-            { a.wrapping_mul(b) },
-        ),
-        Pairing::Multiple(factor) => join(
-            words,
-            xs,
-            zs,
-            |a: u64, b: u64| -> u64
-                ensures { result ≡ word_of (a + factor * b) }
-            { a.wrapping_add(factor.wrapping_mul(b)) },
-        ),
+        Pairing::Plus => pair_each(Pairing::Plus, words, xs, zs),
+        Pairing::Minus => pair_each(Pairing::Minus, words, xs, zs),
+        Pairing::Times => pair_each(Pairing::Times, words, xs, zs),
+        Pairing::Multiple(factor) => pair_each(Pairing::Multiple(factor), words, xs, zs),
     }
 }
 
-// Each word becomes what the function gives for the words of two other lists at its index.
 #[inline(always)]
-fn join<G: Fn(u64, u64) -> u64>(words: &mut [u64], xs: &[u64], zs: &[u64], give: G)
-    requires same { (length words.old ≡ length xs.now) × (length words.old ≡ length zs.now) }
-    requires call { G.IsAlwaysCallable give }
-    ensures { (j : ℕ) → j < length words.new → G.post give (slice_index xs.now j) (slice_index zs.now j) (slice_index words.new j) }
+fn pair_each(pairing: Pairing, words: &mut [u64], xs: &[u64], zs: &[u64])
+    requires { (length words.old ≡ length xs.now) × (length words.old ≡ length zs.now) }
+    ensures { (j : ℕ) → j < length words.new → slice_index words.new j ≡ paired pairing (slice_index xs.now j) (slice_index zs.now j) }
 {
     for i in 0..words.len() {
-        words[i] = give(xs[i], zs[i]);
+        words[i] = made_of(pairing, xs[i], zs[i]);
     }
 }
 
-/// What is made of a list of words: their sum, or the greatest of them.
-#[derive(Debug, Clone, Copy)]
-pub(crate) enum Gathering {
-    Adding,
-    Comparing,
-}
-
-/// What was made of words goes on over more of them.
-pub(crate) fn go_on(gathering: Gathering, so_far: u64, words: &[u64]) -> u64
-    ensures { result ≡ gathered_on gathering so_far (slice_index words.now) (length words.now) }
+#[inline(always)]
+fn made_of(pairing: Pairing, a: u64, b: u64) -> u64
+    ensures { result ≡ paired pairing a b }
 {
-    match gathering {
-        Gathering::Adding => add_all(so_far, words),
-        Gathering::Comparing => greatest_with(so_far, words),
+    match pairing {
+        Pairing::Plus => a.wrapping_add(b),
+        Pairing::Minus => a.wrapping_sub(b),
+        Pairing::Times => a.wrapping_mul(b),
+        Pairing::Multiple(factor) => a.wrapping_add(factor.wrapping_mul(b)),
     }
 }
 
@@ -90,8 +56,8 @@ pub(crate) fn fill_with(words: &mut [u64], word: u64)
     words.fill(word);
 }
 
-// A sum goes on over words.
-fn add_all(sum: u64, words: &[u64]) -> u64
+/// A sum goes on over words.
+pub(crate) fn add_all(sum: u64, words: &[u64]) -> u64
     ensures { result ≡ word_of (sum + total (slice_index words.now) (length words.now)) }
 {
     let mut sum = sum;
@@ -113,8 +79,8 @@ pub(crate) fn add_products(sum: u64, words: &[u64], more: &[u64]) -> u64
     sum
 }
 
-// The greatest of a word and a list's.
-fn greatest_with(most: u64, words: &[u64]) -> u64
+/// The greatest of a word and a list's.
+pub(crate) fn greatest_with(most: u64, words: &[u64]) -> u64
     ensures { result ≡ max most (greatest (slice_index words.now) (length words.now)) }
 {
     let mut most = most;
