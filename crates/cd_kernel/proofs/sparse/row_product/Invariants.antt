@@ -1,7 +1,7 @@
 use Rattle.std.proofs.Common.{◌≡◌, ◌≤◌}
 use Rattle.cd_base.specs.Words.{word_of}
 use Rattle.cd_tree.specs.Operations.{product_at, total}
-use Rattle.cd_kernel.proofs.blocks.row_product.Given as goal
+use Rattle.cd_kernel.proofs.sparse.row_product.Given as goal
 
 abbrev pub invariant-loop-p : goal.invariant-loop-p
 invariant-loop-p g l = record {

@@ -1,12 +1,11 @@
 use Rattle.std.proofs.Common.{◌≡◌, ◌≤◌, ◌-◌}
-use Rattle.cd_base.specs.Words.{word_of}
-use Rattle.cd_tree.specs.Operations.{nth_word, total}
-use Rattle.cd_kernel.proofs.totals.sum_of_all.Given as goal
+use Rattle.cd_kernel.specs.Computing.{gathered}
+use Rattle.cd_kernel.proofs.totals.gather.Given as goal
 
 abbrev pub invariant-loop-at : goal.invariant-loop-at
 invariant-loop-at g l = record {
   within : l.at ≤ l.count;
-  so_far : l.sum ≡ word_of (total (nth_word (g.F.Field.model l.field).words l.x) l.at);
+  so_far : l.so_far ≡ gathered l.gathering (g.F.Field.model l.field).words l.x l.at;
 }
 
 abbrev pub decreases-loop-at : goal.decreases-loop-at

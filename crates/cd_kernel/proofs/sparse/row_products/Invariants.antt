@@ -1,7 +1,7 @@
 use Rattle.std.proofs.Common.{◌≡◌, ℕ, ◌+◌, ◌<◌, get_or}
 use Rattle.cd_base.specs.Words.{word_of}
 use Rattle.cd_tree.specs.Operations.{length_of, product_at, total}
-use Rattle.cd_kernel.proofs.blocks.row_products.Given as goal
+use Rattle.cd_kernel.proofs.sparse.row_products.Given as goal
 
 abbrev pub invariant-loop-i : goal.invariant-loop-i
 invariant-loop-i g l =
