@@ -6,8 +6,7 @@ use Rattle.std.proofs.lemmas.List.Elements.{All-nil, All-cons}
 use Rattle.std.proofs.lemmas.Option.{slice_get_within, get_or_from_slice_get}
 use Rattle.cd_tree.specs.declared.domain.NodeId.{NodeId}
 use Rattle.cd_tree.specs.declared.domain.Domain.{Domain}
-use Rattle.cd_tree.specs.declared.kinds.KindName.{KindName}
-use Rattle.cd_tree.specs.TreeModel.{TreeModel, IsTree, FitsDomain, EachFits, NamesChildren}
+use Rattle.cd_tree.specs.TreeModel.{NamesChildren}
 use Rattle.cd_tree.specs.Domains.{Node, Members, members_by, put_first, nodes_from, node_of, number_of}
 use Rattle.cd_cover.specs.Links.{has_member}
 
@@ -50,24 +49,6 @@ pub domain_here : (domains : List Domain) (n : ℕ) → n < length domains → (
 domain_here [] n within = absurd (omega arith)
 domain_here (first ∷ rest) zero within = (first, refl)
 domain_here (first ∷ rest) (suc n) within = domain_here rest n (omega arith)
-
--- each domain of a program fits
-fits_at : (kinds : List KindName) (all : List Domain) (at : ℕ) (domains : List Domain) (k : ℕ) (domain : Domain)
-    → EachFits kinds all at domains → slice_get domains k ≡ Some domain → FitsDomain kinds all (at + k) domain
-fits_at kinds all at [] k domain each there = absurd (cc)
-fits_at kinds all at (first ∷ rest) zero domain (here, each) there =
-    let same : first ≡ domain = cc in
-    let sum : at + 0 ≡ at = omega arith in
-    rw (sum, ← same) here
-fits_at kinds all at (first ∷ rest) (suc k) domain (here, each) there =
-    let sum : at + suc k ≡ suc at + k = omega arith in
-    rw sum (fits_at kinds all (suc at) rest k domain each there)
-
-pub tree_fits : (tree : TreeModel) → IsTree tree → (id : NodeId) (domain : Domain) → slice_get tree.domains id.0 ≡ Some domain
-    → FitsDomain tree.kinds tree.domains id.0 domain
-tree_fits tree is id domain there =
-    subst (λ n. FitsDomain tree.kinds tree.domains n domain) (zero-add id.0)
-    (fits_at tree.kinds tree.domains 0 tree.domains id.0 domain is.each there)
 
 -- the members that a group names are there
 pub members_here : (domains : List Domain) (at : ℕ) (ids : List NodeId) → NamesChildren domains at ids
