@@ -11,9 +11,10 @@ use Rattle.cd_tree.specs.KindSets.{has_kind}
 use Rattle.cd_tree.specs.Laws.{PathsDiffer}
 use Rattle.cd_tree.specs.TreeModel.{TreeModel, IsTree}
 use Rattle.cd_tree.specs.Paths.{IsNoPath}
-use Rattle.cd_tree.specs.Refusals.{FirstOf, numbered}
+use Rattle.cd_tree.specs.Refusals.{numbered}
 use Rattle.cd_tree.specs.Scripts.{declared_for}
 use Rattle.cd_script.specs.Acceptance.{HasPath, last_point, reaches, FaultOf, FirstFault, IsFoundAs, AreFoundAs}
+use Rattle.cd_foot.proofs.Questions.{HasOne, first_is_one}
 
 -- the answer for a fault whose domain is known, by three tests
 abbrev by_tests : ℕ → Bool → Bool → Bool → Option Refusal
@@ -99,30 +100,13 @@ agree differ tree is at raw one other (inr p) (inl q) = absurd (q.0 p.0 p.1.0 p.
 agree differ tree is at raw one other (inr p) (inr q) =
     sym p.2 ∙ ap (answer_at tree.domains at raw) (same_domain differ tree is raw.path p.0 q.0 p.1 q.1) ∙ q.2
 
-one_answer : PathsDiffer → (tree : TreeModel) → IsTree tree → (fault : ℕ × RawFault) (one other : Option Refusal)
-    → FaultOf tree.domains fault one → FaultOf tree.domains fault other → one ≡ other
+one_answer : PathsDiffer → (tree : TreeModel) → IsTree tree → (fault : ℕ × RawFault) → HasOne (FaultOf tree.domains fault)
 one_answer differ tree is (at, raw) one other p q =
     agree differ tree is at raw one other (comes tree.domains at raw one p) (comes tree.domains at raw other q)
 
-first_is_one : {A : Type 0} (Says : A → Option Refusal → Type 0)
-    → ((x : A) (one other : Option Refusal) → Says x one → Says x other → one ≡ other)
-    → (xs : List A) (one other : Option Refusal) → FirstOf Says xs one → FirstOf Says xs other → one ≡ other
-first_is_one Says same [] one other p q = p ∙ sym q
-first_is_one Says same (x ∷ xs) None None p q = refl
-first_is_one Says same (x ∷ xs) None (Some r) p (inl q) = same x None (Some r) p.0 q
-first_is_one Says same (x ∷ xs) None (Some r) p (inr q) = first_is_one Says same xs None (Some r) p.1 q.1
-first_is_one Says same (x ∷ xs) (Some r) None (inl p) q = same x (Some r) None p q.0
-first_is_one Says same (x ∷ xs) (Some r) None (inr p) q = first_is_one Says same xs (Some r) None p.1 q.1
-first_is_one Says same (x ∷ xs) (Some r) (Some s) (inl p) (inl q) = same x (Some r) (Some s) p q
-first_is_one Says same (x ∷ xs) (Some r) (Some s) (inl p) (inr q) = absurd (let e : Some r ≡ None = same x (Some r) None p q.0 in cc)
-first_is_one Says same (x ∷ xs) (Some r) (Some s) (inr p) (inl q) = absurd (let e : None ≡ Some s = same x None (Some s) p.0 q in cc)
-first_is_one Says same (x ∷ xs) (Some r) (Some s) (inr p) (inr q) = first_is_one Says same xs (Some r) (Some s) p.1 q.1
-
 -- two first refusals of a script, or a refusal and none, are the same
-pub first_fault_is_one : PathsDiffer → (tree : TreeModel) → IsTree tree → (faults : List RawFault) (one other : Option Refusal)
-    → FirstFault tree.domains faults one → FirstFault tree.domains faults other → one ≡ other
-first_fault_is_one differ tree is faults one other p q =
-    first_is_one (FaultOf tree.domains) (one_answer differ tree is) (numbered 1 faults) one other p q
+pub first_fault_is_one : PathsDiffer → (tree : TreeModel) → IsTree tree → (faults : List RawFault) → HasOne (FirstFault tree.domains faults)
+first_fault_is_one differ tree is faults = first_is_one (FaultOf tree.domains) (one_answer differ tree is) (numbered 1 faults)
 
 same_fault : PathsDiffer → (tree : TreeModel) → IsTree tree → (raw : RawFault) (one other : Fault)
     → IsFoundAs tree.domains raw one → IsFoundAs tree.domains raw other → one ≡ other

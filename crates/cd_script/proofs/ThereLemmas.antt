@@ -20,6 +20,7 @@ use Rattle.cd_tree.specs.Scripts.{CanStrike, IsAccepted, declared_for}
 use Rattle.cd_script.specs.Acceptance.{HasPath, HasPoint, HasKind, last_point, reaches, FaultOf, FirstFault, IsFoundAs, AreFoundAs}
 use Rattle.cd_script.specs.There.{FirstFaultIsThere}
 use Rattle.cd_script.proofs.Striking.{IsDeclared, found_strikes, found_declared}
+use Rattle.cd_foot.proofs.Questions.{HasAnswer, first_there}
 
 -- ---- the domain of a path
 
@@ -59,10 +60,6 @@ sought domains path (suc n) =
 
 -- ---- one fault
 
--- a question has an answer
-abbrev HasAnswer : (Option Refusal → Type 0) → Type 0
-HasAnswer Says = (answer : Option Refusal) × Says answer
-
 later : (a b : ℕ) → nat_le a b ≡ false → b < a
 later a b e = grind (e, arith, nat_tests)
 
@@ -91,15 +88,6 @@ fault_there domains (at, raw) = go (sought domains raw.path (length domains))
     go (inr none) = (Some (UnknownPath at), (refl, none))
 
 -- ---- all faults
-
-first_there : {A : Type 0} (Says : A → Option Refusal → Type 0) → ((x : A) → HasAnswer (Says x)) → (xs : List A) → HasAnswer (FirstOf Says xs)
-first_there Says each [] = (None, refl)
-first_there Says each (x ∷ xs) = go (each x) (first_there Says each xs)
-  where
-    go : HasAnswer (Says x) → HasAnswer (FirstOf Says xs) → HasAnswer (FirstOf Says (x ∷ xs))
-    go (None, here) (None, rest) = (None, (here, rest))
-    go (None, here) (Some r, rest) = (Some r, inr (here, rest))
-    go (Some r, here) rest = (Some r, inl here)
 
 -- each list of faults has a first refusal, or none
 pub first_fault_there : FirstFaultIsThere
