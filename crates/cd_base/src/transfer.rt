@@ -1,3 +1,4 @@
+//! Everything from a source, and everything into a sink, in as many calls as the ends need.
 ghost use Rattle.cd_base.specs.Ends.{ReadAll, WriteAll};
 
 use crate::{Bytes, Failed, Sink, Source, WriteStop};
