@@ -7,6 +7,7 @@ use Rattle.std.proofs.lemmas.List.Elements.{All-contains}
 use Rattle.cd_base.specs.declared.place.Place.{Place}
 use Rattle.cd_base.specs.declared.place.Range.{Range}
 use Rattle.cd_base.specs.Words.{Words, in_range}
+use Rattle.cd_base.proofs.ListLemmas.{some_of, some_and}
 use Rattle.cd_tree.specs.declared.domain.NodeId.{NodeId}
 use Rattle.cd_tree.specs.declared.domain.Item.{Item}
 use Rattle.cd_tree.specs.declared.domain.Item.TheVariants.{Run, Group}
@@ -26,7 +27,7 @@ use Rattle.cd_cover.specs.Outer.{outer_references}
 use Rattle.cd_cover.specs.Plans.{PlanModel, IsPlan}
 use Rattle.cd_cover.specs.OuterLaws.{IsChild, LinksTo}
 use Rattle.cd_cover.specs.KeptWords.{WrittenByFirstItems, OuterWordsStay, AgreeWithLinks, AgreeWithEntries, LinksServeMembers}
-use Rattle.cd_cover.proofs.Views.{some_of, some_and, has_member-members_by}
+use Rattle.cd_cover.proofs.Views.{has_member-members_by}
 use Rattle.cd_cover.proofs.Downward.{Known, known_of, domain_behind, same_id, contains_first, contains_behind, contains_cases, contains_none}
 use Rattle.cd_cover.proofs.Grounds.{leaves, once, children}
 use Rattle.cd_cover.proofs.LinkLemmas.{links_lead}

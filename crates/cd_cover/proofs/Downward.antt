@@ -4,6 +4,7 @@ use Rattle.std.specs.Option.{option_map_or}
 use Rattle.std.specs.List.{Contains}
 use Rattle.std.proofs.lemmas.Option.{slice_get_within}
 use Rattle.std.proofs.lemmas.List.Elements.{Contains-append_left, Contains-append_right, Contains-append_cases}
+use Rattle.cd_base.proofs.ListLemmas.{some_of}
 use Rattle.cd_tree.specs.declared.domain.NodeId.{NodeId}
 use Rattle.cd_tree.specs.declared.domain.Item.{Item}
 use Rattle.cd_tree.specs.declared.domain.Item.TheVariants.{Run, Group}
@@ -11,8 +12,7 @@ use Rattle.cd_tree.specs.declared.domain.Domain.{Domain}
 use Rattle.cd_tree.specs.TreeModel.{TreeModel, IsTree, FitsItems, NamesChildren}
 use Rattle.cd_tree.specs.Domains.{Node, Members, node, put_first, members_by, body_by, nodes_from, node_of, node_numbers, body_numbers, member_numbers}
 use Rattle.cd_tree.specs.Scripts.{path_of}
-use Rattle.cd_tree.proofs.View.{domain_fits}
-use Rattle.cd_cover.proofs.Views.{some_of, domain_here, length-nodes_from}
+use Rattle.cd_tree.proofs.View.{domain_fits, length-nodes_from, domain_here}
 use Rattle.cd_cover.proofs.Grounds.{views, parents, paths}
 
 -- the view of a domain of a list

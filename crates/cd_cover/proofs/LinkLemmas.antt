@@ -6,6 +6,7 @@ use Rattle.std.proofs.lemmas.List.Elements.{Contains-append_left, Contains-push}
 use Rattle.std.proofs.lemmas.Bool.{cases_Bool, and_parts}
 use Rattle.std.proofs.lemmas.Option.{slice_get_within, some_pair_parts, none-some, option_and_then_some}
 use Rattle.cd_base.specs.declared.place.Range.{Range}
+use Rattle.cd_base.proofs.ListLemmas.{some_and}
 use Rattle.cd_tree.specs.declared.domain.NodeId.{NodeId}
 use Rattle.cd_tree.specs.declared.domain.How.{How}
 use Rattle.cd_tree.specs.declared.domain.How.TheVariants.{Copy, Refer, Regen}
@@ -15,9 +16,9 @@ use Rattle.cd_tree.specs.TreeModel.{TreeModel, IsTree}
 use Rattle.cd_tree.specs.Domains.{node, body_by, node_of}
 use Rattle.cd_tree.specs.Scripts.{path_of}
 use Rattle.cd_tree.specs.Legal.{entry_at}
+use Rattle.cd_tree.proofs.View.{domain_here}
 use Rattle.cd_cover.specs.Laws.{HoldsLink, LinksLead}
 use Rattle.cd_cover.specs.Links.{Frame, frame_over, frames_of, is_kept, holds_range, holder, by_way, link_in, entry_link}
-use Rattle.cd_cover.proofs.Views.{domain_here, some_and}
 use Rattle.cd_cover.proofs.Grounds.{parents, paths}
 use Rattle.cd_cover.proofs.Frames.{frames_go_up, frames_end}
 

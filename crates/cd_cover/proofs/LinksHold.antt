@@ -2,12 +2,12 @@
 use Rattle.std.proofs.Common.{◌≡◌, ◌≢◌, ℕ, List, Option, None, Some, IsSome, refl, ap, ◌∙◌}
 use Rattle.std.specs.Option.{option_and_then}
 use Rattle.cd_base.specs.declared.place.Range.{Range}
+use Rattle.cd_base.proofs.ListLemmas.{some_and}
 use Rattle.cd_tree.specs.declared.domain.NodeId.{NodeId}
 use Rattle.cd_tree.specs.declared.domain.How.{How}
 use Rattle.cd_tree.specs.declared.domain.How.TheVariants.{Copy, Refer, Regen}
 use Rattle.cd_cover.specs.Links.{Frame, frames_of, link_in, link_of, entry_link, by_way}
 use Rattle.cd_cover.specs.PlanLaws.{LinkHolds, ReferencesHaveLinks, OnlyReferencesHaveLinks}
-use Rattle.cd_cover.proofs.Views.{some_and}
 use Rattle.cd_cover.proofs.LinkLemmas.{links_lead}
 
 -- a link that is there

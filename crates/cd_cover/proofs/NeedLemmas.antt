@@ -5,17 +5,20 @@ use Rattle.std.proofs.lemmas.List.{drop_all, length-map, length-set, get_or-set_
 use Rattle.std.proofs.lemmas.List.Sums.{sum_by-cons}
 use Rattle.std.proofs.lemmas.Option.{slice_get_within, slice_get-get_or, slice_get-map, get_or_from_slice_get, same_Some}
 use Rattle.std.specs.Option.{option_map}
+use Rattle.cd_base.proofs.ListLemmas.{some_of, some_and}
 use Rattle.cd_tree.specs.declared.domain.NodeId.{NodeId}
 use Rattle.cd_tree.specs.declared.domain.Item.{Item}
 use Rattle.cd_tree.specs.declared.domain.Item.TheVariants.{Run, Group}
 use Rattle.cd_tree.specs.declared.domain.Domain.{Domain}
 use Rattle.cd_tree.specs.TreeModel.{TreeModel, IsTree, FitsItems, NamesChildren}
-use Rattle.cd_tree.specs.Domains.{Node, number_of, Body, Members, node, members_by, body_by, body_of, put_first, nodes_from, node_of, root_of, node_numbers, body_numbers, member_numbers, numbers_from}
+use Rattle.cd_tree.specs.Domains.{Node, number_of, Body, Members, node, members_by, body_by, body_of, put_first, nodes_from, node_of, root_of, node_numbers, body_numbers, member_numbers}
 use Rattle.cd_tree.specs.Limits.{domains_limit}
 use Rattle.cd_tree.specs.Meaning.{node_need, body_need, members_need}
 use Rattle.cd_tree.specs.Laws.{NestedViewFollows, NeedIsRoots}
+use Rattle.cd_tree.proofs.View.{length-nodes_from, members_here}
+use Rattle.cd_tree.proofs.Walk.{length-numbers_from}
 use Rattle.cd_cover.specs.Needs.{own_need, most_own, AreSmall, HoldsFrom, item_need, CanAdd}
-use Rattle.cd_cover.proofs.Views.{members_here, map_more, some_of, some_and, view_number, length-nodes_from}
+use Rattle.cd_cover.proofs.Views.{map_more, view_number}
 use Rattle.cd_cover.proofs.Steps.{item_at}
 
 -- ---- the blocks of each domain's own entries
@@ -88,10 +91,6 @@ views_bounded at (domain ∷ rest) small zero d is =
     let same : node (record { 0 = at }) domain (body_by find domain.items) ≡ d = cc in
     subst Bounded same (omega arith)
 views_bounded at (domain ∷ rest) small (suc k) d is = views_bounded (suc at) rest (λ j x there. small (suc j) x there) k d is
-
-length-numbers_from : (at n : ℕ) → length (numbers_from at n) ≡ n
-length-numbers_from at zero = refl
-length-numbers_from at (suc n) = ap suc (length-numbers_from (suc at) n)
 
 root_bounded : (domains : List Domain) → 0 < length domains → AreSmall domains → Bounded (root_of domains)
 root_bounded [] some small = absurd (omega arith)

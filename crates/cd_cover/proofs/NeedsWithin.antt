@@ -3,6 +3,7 @@ use Rattle.std.proofs.Common.{◌≡◌, inl, inr, ℕ, zero, suc, ◌+◌, ◌�
 use Rattle.std.specs.Option.{option_map_or}
 use Rattle.std.specs.List.{Contains}
 use Rattle.std.proofs.lemmas.List.Sums.{sum_by-cons}
+use Rattle.cd_base.proofs.ListLemmas.{some_of}
 use Rattle.cd_tree.specs.declared.domain.NodeId.{NodeId}
 use Rattle.cd_tree.specs.declared.domain.Item.{Item}
 use Rattle.cd_tree.specs.declared.domain.Item.TheVariants.{Run, Group}
@@ -12,7 +13,6 @@ use Rattle.cd_tree.specs.Domains.{Node, Members, put_first, members_by, body_by,
 use Rattle.cd_tree.specs.Meaning.{node_need, body_need, members_need}
 use Rattle.cd_cover.specs.Needs.{own_need}
 use Rattle.cd_cover.specs.PlanLaws.{need_of, GroupsNeedWithin, ChildrenNeedWithin}
-use Rattle.cd_cover.proofs.Views.{some_of}
 use Rattle.cd_cover.proofs.Downward.{Known, known_of, view_in, Child, child_of_group, contains_first, contains_cases, contains_none, IsNamed}
 use Rattle.cd_cover.proofs.PathLemmas.{child_is_named}
 

@@ -4,6 +4,7 @@ use Rattle.std.proofs.lemmas.Bool.{true≢false}
 use Rattle.cd_base.specs.declared.place.Place.{Place}
 use Rattle.cd_base.specs.declared.place.Range.{Range}
 use Rattle.cd_base.specs.Places.{IsLeast}
+use Rattle.cd_base.proofs.RangeLemmas.{IsLeast-same}
 use Rattle.cd_tree.specs.declared.domain.NodeId.{NodeId}
 use Rattle.cd_tree.specs.declared.domain.How.{How}
 use Rattle.cd_tree.specs.declared.domain.How.TheVariants.{Copy, Refer, Regen}
@@ -17,9 +18,9 @@ use Rattle.cd_tree.specs.Domains.{Node, node, number_of, nodes_from, root_of}
 use Rattle.cd_tree.specs.Limits.{need_limit}
 use Rattle.cd_tree.specs.Meaning.{uncovered, node_need}
 use Rattle.cd_tree.specs.Refusals.{FirstOf, numbered}
+use Rattle.cd_tree.proofs.RefusalLemmas.{HasOne, then_is_one, first_is_one}
 use Rattle.cd_cover.specs.Links.{Frame, frames_of, link_in, stale}
 use Rattle.cd_cover.specs.Checks.{CoverageOf, ReferenceOf, EntryOf, NumberedEntryOf, DomainOf, NeedOf, FirstFlaw}
-use Rattle.cd_foot.proofs.Questions.{HasOne, then_is_one, first_is_one, least_is_one}
 
 -- ---- what entries leave out
 
@@ -41,7 +42,7 @@ coverage_is_one : (d : Node) → HasOne (CoverageOf d)
 coverage_is_one d one other p q =
     let here = coverage_comes d one p in
     let there = coverage_comes d other q in
-    sym here.2 ∙ ap (left_out d) (least_is_one (uncovered d) here.0 there.0 here.1 there.1) ∙ there.2
+    sym here.2 ∙ ap (left_out d) (IsLeast-same (uncovered d) here.0 there.0 here.1 there.1) ∙ there.2
 
 -- ---- references
 
@@ -86,7 +87,7 @@ reference_agree id frames at r one other (inl p) (inl q) = p.1 ∙ sym q.1
 reference_agree id frames at r one other (inl p) (inr q) = absurd (linked_or_not (link_in r frames) p.0 q.0)
 reference_agree id frames at r one other (inr p) (inl q) = absurd (linked_or_not (link_in r frames) q.0 p.0)
 reference_agree id frames at r one other (inr (some, p)) (inr (linked, q)) =
-    sym p.2 ∙ ap (stale_at id at) (least_is_one (stale r frames) p.0 q.0 p.1 q.1) ∙ q.2
+    sym p.2 ∙ ap (stale_at id at) (IsLeast-same (stale r frames) p.0 q.0 p.1 q.1) ∙ q.2
 
 reference_is_one : (id : NodeId) (frames : List Frame) (at : ℕ) (r : Range) → HasOne (ReferenceOf id frames at r)
 reference_is_one id frames at r one other p q =

@@ -4,6 +4,7 @@ use Rattle.std.specs.List.{Contains}
 use Rattle.std.proofs.lemmas.List.Elements.{All-weaker, All-contains_itself}
 use Rattle.std.proofs.lemmas.Bool.{cases_lt}
 use Rattle.std.proofs.lemmas.Option.{same_Some}
+use Rattle.cd_base.proofs.ListLemmas.{some_of, some_and}
 use Rattle.cd_tree.specs.declared.domain.NodeId.{NodeId}
 use Rattle.cd_tree.specs.declared.domain.Domain.{Domain}
 use Rattle.cd_tree.specs.TreeModel.{TreeModel, IsTree}
@@ -13,7 +14,6 @@ use Rattle.cd_cover.specs.Links.{link_of}
 use Rattle.cd_cover.specs.Outer.{outer_references}
 use Rattle.cd_cover.specs.Plans.{PlanModel, IsPlan}
 use Rattle.cd_cover.specs.OuterLaws.{LiesAbove, IsOuter, IsChild, LinksTo, OuterOfMembers, OuterLieBelow}
-use Rattle.cd_cover.proofs.Views.{some_of, some_and}
 use Rattle.cd_cover.proofs.Downward.{Known, view_in, same_id}
 use Rattle.cd_cover.proofs.PathLemmas.{InParent, in_own_parent, numbers_through, path_cases, path_before, path_up}
 use Rattle.cd_cover.proofs.OuterLemmas.{PlanFacts, plan_facts}

@@ -3,15 +3,16 @@ use Rattle.std.proofs.Common.{◌≡◌, ℕ, ◌+◌, ◌-◌, ◌<◌, ◌≤�
 use Rattle.std.specs.Option.{option_map_or}
 use Rattle.std.specs.List.{flat_map}
 use Rattle.std.proofs.lemmas.List.{length-map}
+use Rattle.cd_base.proofs.ListLemmas.{some_and}
 use Rattle.cd_tree.specs.declared.domain.NodeId.{NodeId}
 use Rattle.cd_tree.specs.Domains.{Node, nodes_from, node_of, node_numbers, numbers_from}
 use Rattle.cd_tree.specs.Limits.{domains_limit}
 use Rattle.cd_tree.specs.Slices.{node_size, slice_end}
+use Rattle.cd_tree.proofs.View.{length-nodes_from, domain_here}
 use Rattle.cd_cover.specs.Outer.{outer_references}
 use Rattle.cd_cover.specs.OuterLaws.{leading_of}
 use Rattle.cd_cover.specs.OuterLeft.{IsWithin, left_at}
 use Rattle.cd_cover.specs.Plans.{PlanModel, IsPlan, links_of}
-use Rattle.cd_cover.proofs.Views.{domain_here, length-nodes_from, some_and}
 use Rattle.cd_cover.proofs.Downward.{view_in}
 use Rattle.cd_cover.proofs.OuterSteps.{whole_left}
 use Rattle.cd_cover.proofs.Grounds.{views, slices, slices_end}

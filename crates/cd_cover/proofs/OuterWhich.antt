@@ -7,6 +7,7 @@ use Rattle.std.proofs.lemmas.List.Elements.{Contains-append_left, Contains-appen
 use Rattle.std.proofs.lemmas.Bool.{ltb-true, lt-ltb, cases_Bool}
 use Rattle.cd_tree.specs.declared.domain.NodeId.{NodeId}
 use Rattle.cd_base.specs.declared.place.Range.{Range}
+use Rattle.cd_base.proofs.ListLemmas.{some_of, some_and}
 use Rattle.cd_tree.specs.declared.domain.How.{How}
 use Rattle.cd_tree.specs.declared.domain.How.TheVariants.{Copy, Refer, Regen}
 use Rattle.cd_tree.specs.declared.domain.Entry.{Entry}
@@ -17,7 +18,6 @@ use Rattle.cd_tree.specs.Scripts.{path_of}
 use Rattle.cd_cover.specs.Links.{Frame, frames_of, link_in, by_way, entry_link, link_of}
 use Rattle.cd_cover.specs.Outer.{outer_references}
 use Rattle.cd_cover.specs.OuterLaws.{LiesAbove, IsOuter, OuterAreThese, OuterAreReferences, leads_before, leading_before, leading_of}
-use Rattle.cd_cover.proofs.Views.{some_of, some_and}
 use Rattle.cd_cover.proofs.Downward.{view_in, domain_behind, contains_first, contains_behind, contains_cases, contains_none}
 use Rattle.cd_cover.proofs.PathLemmas.{path_order, top_on_path}
 use Rattle.cd_cover.proofs.OuterLemmas.{PlanFacts, plan_facts, outer_listed}

@@ -4,12 +4,13 @@ use Rattle.std.specs.Option.{option_map_or}
 use Rattle.std.specs.List.{Contains}
 use Rattle.std.proofs.lemmas.Option.{slice_get_within, same_Some}
 use Rattle.std.proofs.lemmas.List.Elements.{Contains-append_left, Contains-push, Contains-push_cases}
+use Rattle.cd_base.proofs.ListLemmas.{some_of}
 use Rattle.cd_tree.specs.declared.domain.NodeId.{NodeId}
 use Rattle.cd_tree.specs.declared.domain.Domain.{Domain}
 use Rattle.cd_tree.specs.TreeModel.{TreeModel, IsTree}
 use Rattle.cd_tree.specs.Domains.{Node, node_of, root_of, node_numbers, numbers_from}
 use Rattle.cd_tree.specs.Scripts.{path_of}
-use Rattle.cd_cover.proofs.Views.{some_of, domain_here}
+use Rattle.cd_tree.proofs.View.{domain_here}
 use Rattle.cd_cover.specs.OuterLaws.{SubtreesByPaths}
 use Rattle.cd_cover.proofs.Downward.{Known, known_of, view_in, domain_behind, same_id, IsNamed, downward, upward, contains_first, contains_behind, numbers_cases, numbers_of_child}
 

@@ -5,6 +5,7 @@ use Rattle.std.proofs.lemmas.List.{length-map}
 use Rattle.std.proofs.lemmas.Option.{slice_get-map, get_or_from_slice_get}
 use Rattle.cd_base.specs.declared.place.Place.{Place}
 use Rattle.cd_base.specs.declared.place.Range.{Range}
+use Rattle.cd_base.proofs.ListLemmas.{some_of, some_and}
 use Rattle.cd_tree.specs.declared.domain.NodeId.{NodeId}
 use Rattle.cd_tree.specs.declared.domain.How.{How}
 use Rattle.cd_tree.specs.declared.domain.How.TheVariants.{Copy, Refer, Regen}
@@ -17,10 +18,10 @@ use Rattle.cd_tree.specs.Meaning.{IsCovered, uncovered, node_need}
 use Rattle.cd_tree.specs.Legal.{entry_at}
 use Rattle.cd_tree.specs.Laws.{CoveredByDomains}
 use Rattle.cd_tree.specs.Refusals.{FirstOf, numbered}
+use Rattle.cd_tree.proofs.View.{length-nodes_from, domain_here}
 use Rattle.cd_cover.specs.Links.{Frame, frames_of, link_in, link_of, by_way, entry_link}
 use Rattle.cd_cover.specs.Checks.{EntryOf, NumberedEntryOf, DomainOf}
 use Rattle.cd_cover.specs.Plans.{PlanModel, IsPlan, HasFreshLinks, links_of}
-use Rattle.cd_cover.proofs.Views.{some_of, some_and, domain_here, length-nodes_from}
 use Rattle.cd_cover.proofs.Grounds.{views, roots}
 
 -- ---- no flaw

@@ -17,13 +17,13 @@ use Rattle.cd_tree.specs.Domains.{Node, node, nodes_from, root_of}
 use Rattle.cd_tree.specs.Limits.{need_limit}
 use Rattle.cd_tree.specs.Meaning.{in_entries, body_reads, body_writes, uncovered, node_need}
 use Rattle.cd_tree.specs.Refusals.{FirstOf, numbered}
+use Rattle.cd_tree.proofs.RefusalLemmas.{HasAnswer, then_there, first_there}
 use Rattle.cd_foot.specs.Bounded.{IsBounded}
 use Rattle.cd_cover.specs.Links.{Frame, frames_of, link_in, written_since, stale}
 use Rattle.cd_cover.specs.Checks.{CoverageOf, ReferenceOf, EntryOf, NumberedEntryOf, DomainOf, NeedOf}
 use Rattle.cd_cover.specs.There.{FirstFlawIsThere}
 use Rattle.cd_foot.proofs.BoundedLemmas.{bounded_has_least}
 use Rattle.cd_foot.proofs.ThereLemmas.{reach_bounded}
-use Rattle.cd_foot.proofs.Questions.{HasAnswer, then_there, first_there}
 
 -- ---- what entries leave out
 

@@ -1,11 +1,11 @@
 -- The blocks of a domain's own entries, and needs kept in a list.
-use Rattle.std.specs.Prelude.{◌≡◌, ℕ, ◌<◌, ◌≤◌, ◌*◌, ◌^◌, List, Some, All, length, sum_by, slice_get, slice_index}
+use Rattle.std.specs.Prelude.{◌≡◌, ℕ, ◌<◌, ◌≤◌, ◌+◌, ◌*◌, ◌^◌, List, Some, All, length, sum_by, slice_get, slice_index}
 use Rattle.cd_tree.specs.declared.domain.NodeId.{NodeId}
 use Rattle.cd_tree.specs.declared.domain.Item.{Item}
 use Rattle.cd_tree.specs.declared.domain.Item.TheVariants.{Run, Group}
 use Rattle.cd_tree.specs.declared.domain.Domain.{Domain}
 use Rattle.cd_tree.specs.Domains.{Node, nodes_from}
-use Rattle.cd_tree.specs.Limits.{entries_limit}
+use Rattle.cd_tree.specs.Limits.{entries_limit, blocks_for}
 use Rattle.cd_tree.specs.Meaning.{entry_need, node_need}
 
 abbrev pub own_need : Domain → ℕ
@@ -13,7 +13,7 @@ own_need domain = sum_by entry_need domain.entries
 
 -- the blocks of a range of 2^32 words, and one more for a reference
 abbrev pub most_entry : ℕ
-most_entry = 67108865
+most_entry = blocks_for (2 ^ 32) + 1
 
 -- as many entries as a domain may have, each of them such a reference
 abbrev pub most_own : ℕ

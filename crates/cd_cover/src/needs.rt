@@ -7,6 +7,7 @@ ghost use Rattle.cd_tree.specs.TreeModel.{IsTree};
 ghost use Rattle.cd_cover.specs.Needs.{own_need, most_entry, most_own, AreSmall, HoldsFrom, item_need, CanAdd};
 
 use cd_base::NoMemory;
+use cd_tree::limits::BLOCK_WORDS;
 use cd_tree::{Entry, How, Item, NodeId, Tree};
 use std::alloc::Global;
 
@@ -15,7 +16,8 @@ fn entry_blocks(entry: Entry) -> u64
     ensures value { result ≡ entry_need entry }
     ensures small { result ≤ most_entry }
 {
-    let blocks = (u64::from(entry.range.high.saturating_sub(entry.range.low)) + 63) / 64;
+    let words = u64::from(entry.range.high.saturating_sub(entry.range.low));
+    let blocks = (words + u64::from(BLOCK_WORDS - 1)) / u64::from(BLOCK_WORDS);
     match entry.how {
         How::Copy | How::Regen(_) => blocks,
         How::Refer => blocks + 1,

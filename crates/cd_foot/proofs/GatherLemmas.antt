@@ -1,7 +1,7 @@
 -- Ranges gathered from a list, one element after another.
 use Rattle.std.proofs.Common.{◌≡◌, ℕ, ◌+◌, ◌<◌, ◌≤◌, List, [], ◌∷◌, ◌++◌, length, drop, get_or, map, All, refl, sym, ap, subst, ◌∙◌, append_assoc}
 use Rattle.std.specs.List.{flat_map}
-use Rattle.std.proofs.lemmas.List.{drop_more, drop_all, append-nil}
+use Rattle.std.proofs.lemmas.List.{drop_all, append-nil}
 use Rattle.std.proofs.lemmas.List.Elements.{All-nil, All-cons, All-head, All-tail, All-append}
 use Rattle.std.proofs.lemmas.Option.{slice_get_read}
 use Rattle.std.specs.Option.{option_map_or}
@@ -53,10 +53,6 @@ gathers_all f xs i before now past so =
       sym (append-nil now) ∙ ap (λ (rs : List Range). now ++ rs) (sym none) ∙ so.whole,
       so.full (subst (All IsFull) (sym none) (All-nil IsFull)),
     )
-
--- the element at an index stands before those behind it
-pub ahead_read : {X : Type 0} (xs : List X) (i : ℕ) (x : X) → i < length xs → x ≡ get_or xs i x → drop i xs ≡ x ∷ drop (i + 1) xs
-ahead_read xs i x within is = drop_more xs i x within ∙ ap (λ y. y ∷ drop (i + 1) xs) (sym is)
 
 -- what is found of a member
 pub side_found : (side : Side) (feet : List Foot) (id : NodeId) (foot : Foot) (set : List Range)

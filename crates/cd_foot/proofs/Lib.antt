@@ -2,7 +2,6 @@ pub mod FeetLemmas
 pub mod GatherLemmas
 pub mod OverlapLemmas
 pub mod SideLemmas
-pub mod Questions
 pub mod OneAnswer
 pub mod BoundedLemmas
 pub mod ThereLemmas

@@ -2,6 +2,7 @@
 use Rattle.std.proofs.Common.{◌≡◌, ℕ, List, Option, None, Some, refl, ap, sym, ◌∙◌}
 use Rattle.cd_base.specs.declared.place.Place.{Place}
 use Rattle.cd_base.specs.Places.{IsLeast}
+use Rattle.cd_base.proofs.RangeLemmas.{IsLeast-same}
 use Rattle.cd_tree.specs.declared.domain.NodeId.{NodeId}
 use Rattle.cd_tree.specs.declared.domain.Domain.{Domain}
 use Rattle.cd_tree.specs.declared.refusal.Refusal.{Refusal}
@@ -9,8 +10,8 @@ use Rattle.cd_tree.specs.declared.refusal.Refusal.TheVariants.{Overlap}
 use Rattle.cd_tree.specs.Domains.{Node, number_of, body_of, nodes_from}
 use Rattle.cd_tree.specs.Meaning.{clash}
 use Rattle.cd_tree.specs.Refusals.{FirstOf}
+use Rattle.cd_tree.proofs.RefusalLemmas.{HasOne, first_is_one}
 use Rattle.cd_foot.specs.Overlaps.{sibling_pairs, OverlapOf, FirstOverlap}
-use Rattle.cd_foot.proofs.Questions.{HasOne, first_is_one, least_is_one}
 
 -- what is refused of two members that interfere first at this place
 abbrev overlap_at : Node → Node → Option Place → Option Refusal
@@ -35,7 +36,7 @@ overlap_is_one : (pair : Node × Node) → HasOne (OverlapOf pair)
 overlap_is_one (first, second) one other p q =
     let here = comes first second one p in
     let there = comes first second other q in
-    sym here.2 ∙ ap (overlap_at first second) (least_is_one (clash first second) here.0 there.0 here.1 there.1) ∙ there.2
+    sym here.2 ∙ ap (overlap_at first second) (IsLeast-same (clash first second) here.0 there.0 here.1 there.1) ∙ there.2
 
 -- the two first overlaps of a program are the same
 pub first_overlap_is_one : (domains : List Domain) → HasOne (FirstOverlap domains)

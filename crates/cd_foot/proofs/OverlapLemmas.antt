@@ -1,11 +1,12 @@
 -- Siblings compared pair by pair: what is left to compare gives the answer to the whole.
 use Rattle.std.proofs.Common.{◌≡◌, ℕ, zero, suc, ◌+◌, ◌<◌, ◌≤◌, Bool, true, ◌&&◌, ◌||◌, List, [], ◌∷◌, ◌++◌, length, drop, get_or, All, Option, None, Some, slice_get, refl, sym, ap, subst, ◌∙◌, inl, inr, arith, IsSomeAnd}
 use Rattle.std.proofs.lemmas.List.{drop_more, drop_all}
-use Rattle.std.proofs.lemmas.Option.{slice_get_within, get_or_from_slice_get}
 use Rattle.cd_base.specs.declared.place.Place.{Place}
 use Rattle.cd_base.specs.declared.place.Range.{Range}
 use Rattle.cd_base.specs.Words.{PlaceSet, in_ranges}
 use Rattle.cd_base.specs.Places.{IsLeast, in_both}
+use Rattle.cd_base.proofs.ListLemmas.{drop-read, drop-found}
+use Rattle.cd_base.proofs.LeastLemmas.{IsLeast-of}
 use Rattle.cd_tree.specs.declared.domain.NodeId.{NodeId}
 use Rattle.cd_tree.specs.declared.domain.Item.{Item}
 use Rattle.cd_tree.specs.declared.domain.Item.TheVariants.{Run, Group}
@@ -17,13 +18,11 @@ use Rattle.cd_tree.specs.Meaning.{node_reach, node_writes, clash, IsApartFrom, M
 use Rattle.cd_tree.specs.TreeModel.{TreeModel, IsTree}
 use Rattle.cd_tree.specs.Laws.{OfEach, DisjointByDomains}
 use Rattle.cd_tree.specs.Refusals.{FirstOf}
-use Rattle.cd_tree.proofs.View.{nested_view_follows}
+use Rattle.cd_tree.proofs.View.{nested_view_follows, length-nodes_from, members_by-found}
 use Rattle.cd_foot.specs.declared.footprints.Foot.{Foot}
 use Rattle.cd_foot.specs.Feet.{IsFoot, AreFeet}
 use Rattle.cd_foot.specs.Overlaps.{pairs_with, pairs_among, sibling_pairs, OverlapOf, FirstOverlap}
 use Rattle.cd_foot.specs.Siblings.{PairOf, item_pairs}
-use Rattle.cd_foot.proofs.GatherLemmas.{ahead_read}
-use Rattle.cd_foot.proofs.SideLemmas.{members_by-found}
 
 -- ---- the first refusal of two lists, one after the other
 
@@ -151,18 +150,13 @@ written_reached domains feet one other d e w r are here there written reached p 
     ∙ ap (λ (b : Bool). node_writes d p && b)
     (side_places domains feet other e r (λ foot. foot.reach) node_reach (λ foot is. is.reach) are there reached p)
 
--- one set of places for another that has the same
-least_of_same : (s t : PlaceSet) (answer : Option Place) → ((p : Place) → s p ≡ t p) → IsLeast s answer → IsLeast t answer
-least_of_same s t None same least = λ p. sym (same p) ∙ least p
-least_of_same s t (Some place) same least = (sym (same place) ∙ least.0, λ p there. least.1 p (same p ∙ there))
-
 -- the least place that the first of two domains writes and the second reaches
 pub least_reached : (domains : List Domain) (feet : List Foot) (one other : NodeId) (d e : Node) (w r : List Range) (answer : Option Place)
     → AreFeet domains feet → node_of domains one ≡ Some d → node_of domains other ≡ Some e
     → IsSomeAnd (slice_get feet one.0) (λ foot. w ≡ foot.writes) → IsSomeAnd (slice_get feet other.0) (λ foot. r ≡ foot.reach)
     → IsLeast (in_both w r) answer → IsLeast (λ p. node_writes d p && node_reach e p) answer
 least_reached domains feet one other d e w r answer are here there written reached least =
-    least_of_same (in_both w r) (λ p. node_writes d p && node_reach e p) answer
+    IsLeast-of (in_both w r) (λ p. node_writes d p && node_reach e p) answer
     (written_reached domains feet one other d e w r are here there written reached) least
 
 -- the least place at which two domains clash, by the least of both directions
@@ -303,7 +297,7 @@ pub item_passed : (find : NodeId → Option Node) (items : List Item) (i : ℕ) 
     → Passed OverlapOf (sibling_pairs (body_by find (drop (i + 1) items))) whole answer
 item_passed find items i item whole answer more is says leads =
     passed OverlapOf (sibling_pairs (body_by find (drop i items))) (item_pairs find item) (sibling_pairs (body_by find (drop (i + 1) items))) whole answer
-    (sibling_pairs-left find (drop i items) item (drop (i + 1) items) (ahead_read items i item more is)) says leads
+    (sibling_pairs-left find (drop i items) item (drop (i + 1) items) (drop-read items i item more is)) says leads
 
 -- what a program's domain says of itself, by the items seen
 says_of : (tree : TreeModel) → IsTree tree → (id : NodeId) (domain : Domain) (items : List Item) (answer : Option Refusal)
@@ -316,10 +310,6 @@ says_of tree is id domain items answer there same says = (
   subst (λ (l : List Item). FirstOf OverlapOf (sibling_pairs (body_by (node_of tree.domains) l)) answer) same says,
 )
 
-ahead_found : {X : Type 0} (xs : List X) (k : ℕ) (x : X) → slice_get xs k ≡ Some x → drop k xs ≡ x ∷ drop (k + 1) xs
-ahead_found xs k x is =
-    drop_more xs k x (slice_get_within xs k x is) ∙ ap (λ y. y ∷ drop (k + 1) xs) (get_or_from_slice_get xs k x x is)
-
 -- one domain more was asked
 pub domain_passed : (tree : TreeModel) → IsTree tree → (id : NodeId) (domain : Domain) (items : List Item) (answer : Option Refusal)
     → slice_get tree.domains id.0 ≡ Some domain → items ≡ domain.items
@@ -329,17 +319,13 @@ pub domain_passed : (tree : TreeModel) → IsTree tree → (id : NodeId) (domain
 domain_passed tree is id domain items answer there same says leads =
     let nodes = nodes_from 0 tree.domains in
     let one = says_of tree is id domain items answer there same says in
-    passed OfDomain (drop id.0 nodes) (one.0 ∷ []) (drop (id.0 + 1) nodes) nodes answer (ahead_found nodes id.0 one.0 one.1)
+    passed OfDomain (drop id.0 nodes) (one.0 ∷ []) (drop (id.0 + 1) nodes) nodes answer (drop-found nodes id.0 one.0 one.1)
     (one_alone OfDomain one.0 answer one.2) leads
-
-nodes_length : (at : ℕ) (domains : List Domain) → length (nodes_from at domains) ≡ length domains
-nodes_length at [] = refl
-nodes_length at (domain ∷ domains) = ap suc (nodes_length (suc at) domains)
 
 -- no domain is left
 pub none_left : (domains : List Domain) (count : ℕ) → length domains ≤ count
     → Leads OfDomain (drop count (nodes_from 0 domains)) (nodes_from 0 domains) → FirstOverlap domains None
 none_left domains count past leads =
     let nodes = nodes_from 0 domains in
-    let size : length nodes ≡ length domains = nodes_length 0 domains in
+    let size : length nodes ≡ length domains = length-nodes_from 0 domains in
     leads None (subst (λ (ds : List Node). FirstOf OfDomain ds None) (sym (drop_all count nodes (omega arith))) refl)

@@ -1,5 +1,5 @@
 -- What is gathered for a domain has its places.
-use Rattle.std.proofs.Common.{◌≡◌, ℕ, ◌+◌, ◌<◌, Bool, true, false, ◌||◌, List, [], ◌∷◌, ◌++◌, length, map, Option, None, Some, slice_get, All, IsSomeAnd, refl, sym, ap, subst, ◌∙◌, arith}
+use Rattle.std.proofs.Common.{◌≡◌, ℕ, ◌+◌, ◌<◌, Bool, false, ◌||◌, List, [], ◌∷◌, ◌++◌, length, map, Option, None, Some, slice_get, All, IsSomeAnd, refl, sym, ap, subst, ◌∙◌, arith}
 use Rattle.std.specs.List.{flat_map}
 use Rattle.std.specs.Option.{option_map_or}
 use Rattle.std.proofs.lemmas.List.Elements.{All-nil, All-cons}
@@ -7,6 +7,8 @@ use Rattle.std.proofs.lemmas.Option.{slice_get_within, slice_get-get_or}
 use Rattle.cd_base.specs.declared.place.Place.{Place}
 use Rattle.cd_base.specs.declared.place.Range.{Range}
 use Rattle.cd_base.specs.Words.{PlaceSet, in_range, in_ranges}
+use Rattle.cd_base.proofs.BoolLemmas.{or-none}
+use Rattle.cd_base.proofs.RangeLemmas.{in_ranges-append}
 use Rattle.cd_tree.specs.declared.domain.NodeId.{NodeId}
 use Rattle.cd_tree.specs.declared.domain.Entry.{Entry}
 use Rattle.cd_tree.specs.declared.domain.Item.{Item}
@@ -15,9 +17,9 @@ use Rattle.cd_tree.specs.declared.domain.Domain.{Domain}
 use Rattle.cd_tree.specs.declared.operation.Op.{Op}
 use Rattle.cd_tree.specs.Operations.{op_writes}
 use Rattle.cd_tree.specs.Meaning.{in_entries, body_reads, member_reads, body_writes, member_writes}
-use Rattle.cd_tree.specs.Domains.{Node, Body, Members, node, stop, run, group, no_more, member, put_first, members_by, body_by, node_of}
+use Rattle.cd_tree.specs.Domains.{Node, Body, Members, node, stop, run, group, no_more, member, members_by, body_by, node_of}
 use Rattle.cd_tree.specs.TreeModel.{TreeModel, IsTree, NamesChildren, FitsItems}
-use Rattle.cd_tree.proofs.View.{domain_fits, nested_view_follows}
+use Rattle.cd_tree.proofs.View.{domain_fits, nested_view_follows, members_by-found, members_here}
 use Rattle.cd_foot.specs.declared.footprints.Foot.{Foot}
 use Rattle.cd_foot.specs.declared.gathered.Side.{Side}
 use Rattle.cd_foot.specs.declared.gathered.Side.TheVariants.{Reads, Writes}
@@ -33,20 +35,12 @@ child_in : (at : ℕ) (o : Option Domain) → IsChild at o → (child : Domain) 
 child_in at None is = absurd is
 child_in at (Some child) is = (child, refl)
 
-names_among : (domains : List Domain) (at : ℕ) (ids : List NodeId) → NamesChildren domains at ids
-    → All (λ (id : NodeId). id.0 < length domains) ids
-names_among domains at [] named = let P : NodeId → Type 0 = λ id. id.0 < length domains in All-nil P
-names_among domains at (id ∷ ids) (above, child, named) =
-    let P : NodeId → Type 0 = λ id. id.0 < length domains in
-    let one = child_in at (slice_get domains id.0) child in
-    All-cons P id ids (slice_get_within domains id.0 one.0 one.1) (names_among domains at ids named)
-
 gatherable : (domains : List Domain) (at : ℕ) (items : List Item) → FitsItems domains at items → All (IsItemOf (length domains)) items
 gatherable domains at [] fits = All-nil (IsItemOf (length domains))
 gatherable domains at (Run op ∷ items) (full, shape, fits) =
     All-cons (IsItemOf (length domains)) (Run op) items full (gatherable domains at items fits)
 gatherable domains at (Group ids ∷ items) (some, few, named, fits) =
-    All-cons (IsItemOf (length domains)) (Group ids) items (names_among domains at ids named) (gatherable domains at items fits)
+    All-cons (IsItemOf (length domains)) (Group ids) items (members_here domains at ids named) (gatherable domains at items fits)
 
 pub gatherable_items : (tree : TreeModel) → IsTree tree → (id : NodeId) (domain : Domain) → slice_get tree.domains id.0 ≡ Some domain
     → (count : ℕ) → count ≡ length tree.domains → All (IsItemOf count) domain.items
@@ -83,19 +77,6 @@ member_found tree is at feet behind id above child =
 
 -- ---- places
 
-or-false : (b : Bool) → (b || false) ≡ b
-or-false true = refl
-or-false false = refl
-
-or-assoc : (a b c : Bool) → ((a || b) || c) ≡ (a || (b || c))
-or-assoc true b c = refl
-or-assoc false b c = refl
-
-in_ranges-append : (rs ss : List Range) (p : Place) → in_ranges (rs ++ ss) p ≡ (in_ranges rs p || in_ranges ss p)
-in_ranges-append [] ss p = refl
-in_ranges-append (r ∷ rs) ss p =
-    ap (λ (b : Bool). in_range r p || b) (in_ranges-append rs ss p) ∙ sym (or-assoc (in_range r p) (in_ranges rs p) (in_ranges ss p))
-
 in_ranges-map : (entries : List Entry) (p : Place) → in_ranges (map (λ entry. entry.range) entries) p ≡ in_entries entries p
 in_ranges-map [] p = refl
 in_ranges-map (entry ∷ entries) p = ap (λ (b : Bool). in_range entry.range p || b) (in_ranges-map entries p)
@@ -121,7 +102,7 @@ member_side-member Writes first rest p = refl
 pub body_side-run : (side : Side) (op : Op) (rest : Body) (p : Place)
     → body_side side (run op rest) p ≡ (in_ranges (op_side side op) p || body_side side rest p)
 body_side-run Reads op rest p = refl
-body_side-run Writes op rest p = ap (λ (b : Bool). b || body_writes rest p) (sym (or-false (in_range (op_writes op) p)))
+body_side-run Writes op rest p = ap (λ (b : Bool). b || body_writes rest p) (sym (or-none (in_range (op_writes op) p)))
 
 pub body_side-group : (side : Side) (members : Members) (rest : Body) (p : Place)
     → body_side side (group members rest) p ≡ (member_side side members p || body_side side rest p)
@@ -147,10 +128,6 @@ both_parts rs ss p a b e f = in_ranges-append rs ss p ∙ ap (λ (x : Bool). x |
 
 side_at-found : (side : Side) (feet : List Foot) (id : NodeId) (foot : Foot) → slice_get feet id.0 ≡ Some foot → side_at side feet id ≡ foot_side side foot
 side_at-found side feet id foot found = ap (λ (o : Option Foot). option_map_or (foot_side side) o []) found
-
-pub members_by-found : (find : NodeId → Option Node) (id : NodeId) (ids : List NodeId) (d : Node) → find id ≡ Some d
-    → members_by find (id ∷ ids) ≡ member d (members_by find ids)
-members_by-found find id ids d found = ap (λ (o : Option Node). put_first o (members_by find ids)) found
 
 members_places : (side : Side) (tree : TreeModel) → IsTree tree → (at : ℕ) (feet : List Foot) → AreFeetFrom (at + 1) tree.domains feet
     → (ids : List NodeId) (p : Place) → NamesChildren tree.domains at ids

@@ -10,13 +10,13 @@ use Rattle.cd_tree.specs.declared.refusal.Refusal.TheVariants.{Overlap}
 use Rattle.cd_tree.specs.Domains.{Node, Body, Members, node, stop, run, group, no_more, member, number_of, body_of, nodes_from}
 use Rattle.cd_tree.specs.Meaning.{node_reads, node_writes, node_reach, clash}
 use Rattle.cd_tree.specs.Refusals.{FirstOf}
+use Rattle.cd_tree.proofs.RefusalLemmas.{HasAnswer, first_there}
 use Rattle.cd_foot.specs.declared.gathered.Side.{Side}
 use Rattle.cd_foot.specs.declared.gathered.Side.TheVariants.{Reads, Writes}
 use Rattle.cd_foot.specs.Gathered.{op_side, entry_side, node_side}
 use Rattle.cd_foot.specs.Overlaps.{sibling_pairs, OverlapOf}
 use Rattle.cd_foot.specs.Bounded.{IsBounded, BoundedHasLeast, ReachIsBounded, FirstOverlapIsThere}
 use Rattle.cd_foot.proofs.SideLemmas.{body_side, member_side, member_side-member, body_side-run, body_side-group, none-of-members, none-of-body, node_side-node}
-use Rattle.cd_foot.proofs.Questions.{HasAnswer, first_there}
 
 -- ---- bounds
 

@@ -1,6 +1,6 @@
 use Rattle.std.proofs.Common.{◌≡◌, ◌≤◌, ◌∙◌, sym, length, arith}
 use Rattle.cd_tree.specs.Domains.{nodes_from}
-use Rattle.cd_cover.proofs.Views.{length-nodes_from}
+use Rattle.cd_tree.proofs.View.{length-nodes_from}
 use Rattle.cd_cover.proofs.FirstLemmas.{domain_hit, domain_miss, domains_end}
 use Rattle.cd_cover.proofs.flaws.first_flaw.Goals as goal
 

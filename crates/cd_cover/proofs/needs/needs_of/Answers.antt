@@ -1,8 +1,8 @@
 use Rattle.std.proofs.Common.{◌≡◌, ◌<◌, ◌+◌, ◌*◌, ◌-◌, ◌∙◌, ℕ, List, length, subst, sym, ap, arith}
 use Rattle.cd_tree.specs.declared.domain.NodeId.{NodeId}
 use Rattle.cd_tree.specs.Limits.{domains_limit}
+use Rattle.cd_tree.proofs.View.{domain_here}
 use Rattle.cd_cover.specs.Needs.{most_own, HoldsFrom}
-use Rattle.cd_cover.proofs.Views.{domain_here}
 use Rattle.cd_cover.proofs.NeedLemmas.{NeedsDown, down_all, down_one, down_end, need_small, in_view, added_small}
 use Rattle.cd_cover.proofs.needs.needs_of.Goals as goal
 

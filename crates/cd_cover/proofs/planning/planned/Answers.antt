@@ -5,8 +5,8 @@ use Rattle.cd_tree.specs.declared.refusal.Refusal.{Refusal}
 use Rattle.cd_tree.specs.Domains.{nodes_from, root_of}
 use Rattle.cd_tree.specs.Meaning.{node_need}
 use Rattle.cd_tree.specs.Refusals.{FirstOf}
+use Rattle.cd_tree.proofs.View.{length-nodes_from}
 use Rattle.cd_cover.specs.Checks.{DomainOf}
-use Rattle.cd_cover.proofs.Views.{length-nodes_from}
 use Rattle.cd_cover.proofs.PlanLemmas.{covered, fresh_links, root_read}
 use Rattle.cd_cover.proofs.planning.planned.Goals as goal
 

@@ -5,8 +5,7 @@ use Rattle.cd_base.specs.Places.{IsLeast}
 use Rattle.cd_tree.specs.declared.domain.NodeId.{NodeId}
 use Rattle.cd_tree.specs.TreeModel.{FitsItems, NamesChildren}
 use Rattle.cd_tree.specs.Domains.{node_of}
-use Rattle.cd_tree.proofs.View.{domain_fits}
-use Rattle.cd_cover.proofs.Views.{members_here}
+use Rattle.cd_tree.proofs.View.{domain_fits, members_here}
 use Rattle.cd_cover.proofs.Steps.{by_members, ItemsLeft, items_all, run_at, group_at, group_with_child, items_end, named_at, at_view}
 use Rattle.cd_cover.proofs.written.first_before.Goals as goal
 use Rattle.cd_cover.proofs.written.first_before.Goals.{in-Run, in-Group+else-is_among}

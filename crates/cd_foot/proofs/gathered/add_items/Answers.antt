@@ -1,6 +1,7 @@
 use Rattle.std.proofs.Common.{refl}
+use Rattle.cd_base.proofs.ListLemmas.{drop-read}
 use Rattle.cd_foot.specs.Gathered.{item_side}
-use Rattle.cd_foot.proofs.GatherLemmas.{gathers_none, gathers_more, gathers_all, ahead_read}
+use Rattle.cd_foot.proofs.GatherLemmas.{gathers_none, gathers_more, gathers_all}
 use Rattle.cd_foot.proofs.gathered.add_items.Goals as goal
 
 pub loop-item-init : goal.loop-item-init
@@ -11,7 +12,7 @@ loop-item-preserved c =
     let own = item_side c.args.side c.args.feet.now in
     gathers_more own c.args.items.now c.loop-item.item-index c.item-item.result c.args.ranges.now.items c.loop-item.ranges.items
     (own c.item-item.result) c.add_item.new.ranges.items
-    (ahead_read c.args.items.now c.loop-item.item-index c.item-item.result c.loop-item-test.true c.item-item.is)
+    (drop-read c.args.items.now c.loop-item.item-index c.item-item.result c.loop-item-test.true c.item-item.is)
     refl c.in_ok-add_item.ensures.full c.in_ok-add_item.ensures.ranges c.loop-item.invariant
 
 pub returns : goal.returns
