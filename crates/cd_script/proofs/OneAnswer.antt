@@ -1,5 +1,5 @@
 -- A script has one first refusal: each fault has one answer, since one domain has its path.
-use Rattle.std.proofs.Common.{◌≡◌, ◌⊎◌, inl, inr, ℕ, zero, suc, ◌<◌, Bool, true, false, nat_lt, if◌then◌else◌, List, [], ◌∷◌, length, Option, None, Some, slice_get, refl, ap, sym, ◌∙◌, arith}
+use Rattle.std.proofs.Common.{◌≡◌, ◌⊎◌, inl, inr, ℕ, Bool, true, false, nat_lt, if◌then◌else◌, List, [], ◌∷◌, Option, None, Some, refl, ap, sym, ◌∙◌}
 use Rattle.std.proofs.lemmas.Bool.{lt-ltb, le-ltb}
 use Rattle.cd_tree.specs.declared.domain.NodeId.{NodeId}
 use Rattle.cd_tree.specs.declared.domain.Domain.{Domain}
@@ -13,8 +13,9 @@ use Rattle.cd_tree.specs.TreeModel.{TreeModel, IsTree}
 use Rattle.cd_tree.specs.Paths.{IsNoPath}
 use Rattle.cd_tree.specs.Refusals.{numbered}
 use Rattle.cd_tree.specs.Scripts.{declared_for}
+use Rattle.cd_tree.proofs.RefusalLemmas.{HasOne, first_is_one}
+use Rattle.cd_tree.proofs.View.{domain_here}
 use Rattle.cd_script.specs.Acceptance.{HasPath, last_point, reaches, FaultOf, FirstFault, IsFoundAs, AreFoundAs}
-use Rattle.cd_foot.proofs.Questions.{HasOne, first_is_one}
 
 -- the answer for a fault whose domain is known, by three tests
 abbrev by_tests : ℕ → Bool → Bool → Bool → Option Refusal
@@ -76,11 +77,6 @@ comes domains at raw (Some (Undetected n)) (same, (id, path, place, unknown)) =
     )
 comes domains at raw (Some _) never = absurd never
 
-listed : (domains : List Domain) (k : ℕ) → k < length domains → (domain : Domain) × (slice_get domains k ≡ Some domain)
-listed [] k below = absurd (omega arith)
-listed (domain ∷ domains) zero below = (domain, refl)
-listed (domain ∷ domains) (suc k) below = listed domains k (omega arith)
-
 -- a fault as accepted in a domain
 abbrev found_in : RawFault → NodeId → Fault
 found_in raw id = record { node = id; begin = raw.begin; item = raw.item; kind = raw.kind; place = raw.place; mask = raw.mask }
@@ -88,8 +84,8 @@ found_in raw id = record { node = id; begin = raw.begin; item = raw.item; kind =
 same_domain : PathsDiffer → (tree : TreeModel) → IsTree tree → (path : List ℕ) (id other : NodeId)
     → HasPath tree.domains path id → HasPath tree.domains path other → id ≡ other
 same_domain differ tree is path id other p q =
-    let one = listed tree.domains id.0 p.0 in
-    let two = listed tree.domains other.0 q.0 in
+    let one = domain_here tree.domains id.0 p.0 in
+    let two = domain_here tree.domains other.0 q.0 in
     differ tree is id other one.0 two.0 one.1 two.1 (p.1 ∙ sym q.1)
 
 agree : PathsDiffer → (tree : TreeModel) → IsTree tree → (at : ℕ) (raw : RawFault) (one other : Option Refusal)

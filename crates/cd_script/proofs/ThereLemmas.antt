@@ -1,5 +1,5 @@
 -- A script has an answer: a search for the path of each fault, and then three tests.
-use Rattle.std.proofs.Common.{◌≡◌, ◌⊎◌, ℕ, zero, suc, ◌^◌, ◌<◌, ◌≤◌, Bool, true, false, nat_le, List, [], ◌∷◌, length, Option, None, Some, All, refl, ap, inl, inr, arith, subst, sym, ◌∙◌}
+use Rattle.std.proofs.Common.{◌≡◌, ◌⊎◌, ℕ, zero, suc, ◌^◌, ◌<◌, ◌≤◌, Bool, true, false, nat_le, List, [], ◌∷◌, length, None, Some, All, refl, ap, inl, inr, arith, subst, sym, ◌∙◌}
 use Rattle.std.proofs.lemmas.Bool.{true≢false}
 use Rattle.std.proofs.lemmas.Bool.Decides.{nat_tests}
 use Rattle.std.proofs.lemmas.List.Elements.{All-nil, All-cons}
@@ -9,18 +9,17 @@ use Rattle.cd_tree.specs.declared.domain.NodeId.{NodeId}
 use Rattle.cd_tree.specs.declared.domain.Domain.{Domain}
 use Rattle.cd_tree.specs.declared.document.RawFault.{RawFault}
 use Rattle.cd_tree.specs.declared.document.Fault.{Fault}
-use Rattle.cd_tree.specs.declared.refusal.Refusal.{Refusal}
 use Rattle.cd_tree.specs.declared.refusal.Refusal.TheVariants.{UnknownPath, NoSuchItem, OutsideReach, Undetected}
 use Rattle.cd_tree.specs.KindSets.{has_kind}
 use Rattle.cd_tree.specs.Laws.{DetectableByPaths}
 use Rattle.cd_tree.specs.TreeModel.{TreeModel, IsTree}
-use Rattle.cd_tree.specs.Paths.{path_text_of, IsNoPath}
+use Rattle.cd_tree.specs.Paths.{path_text_of}
 use Rattle.cd_tree.specs.Refusals.{FirstOf, numbered}
 use Rattle.cd_tree.specs.Scripts.{CanStrike, IsAccepted, declared_for}
-use Rattle.cd_script.specs.Acceptance.{HasPath, HasPoint, HasKind, last_point, reaches, FaultOf, FirstFault, IsFoundAs, AreFoundAs}
+use Rattle.cd_tree.proofs.RefusalLemmas.{HasAnswer, first_there}
+use Rattle.cd_script.specs.Acceptance.{HasPath, last_point, reaches, FaultOf, FirstFault, IsFoundAs, AreFoundAs}
 use Rattle.cd_script.specs.There.{FirstFaultIsThere}
 use Rattle.cd_script.proofs.Striking.{IsDeclared, found_strikes, found_declared}
-use Rattle.cd_foot.proofs.Questions.{HasAnswer, first_there}
 
 -- ---- the domain of a path
 
