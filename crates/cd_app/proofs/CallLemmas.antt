@@ -8,7 +8,7 @@ use Rattle.cd_tree.specs.declared.document.Fault.{Fault}
 use Rattle.cd_tree.specs.declared.event.Cause.{Cause}
 use Rattle.cd_tree.specs.declared.refusal.Refusal.{Refusal}
 use Rattle.cd_check.specs.Checking.{FirstRefusalOf, Passes}
-use Rattle.cd_parse.specs.Reading.{parse}
+use Rattle.cd_parse.specs.Parsing.{parse}
 use Rattle.cd_field.specs.FieldModel.{FieldModel}
 use Rattle.cd_command.specs.declared.command.Command.{Command}
 use Rattle.cd_command.specs.CommandLine.{command_in}

@@ -9,7 +9,7 @@ use Rattle.cd_tree.specs.declared.refusal.Refusal.{Refusal}
 use Rattle.cd_check.specs.Checking.{Question, FirstRefusalOf, Passes}
 use Rattle.cd_check.specs.Laws.{FirstRefusalIsOne, ScriptIsOne}
 use Rattle.cd_parse.specs.Laws.{ParsedIsWellRead}
-use Rattle.cd_parse.specs.Reading.{parse}
+use Rattle.cd_parse.specs.Parsing.{parse}
 use Rattle.cd_app.specs.declared.status.Status.{Status}
 use Rattle.cd_app.specs.declared.status.Status.TheVariants.{Done, Exhausted, Usage, Refused, ReadFault, WriteFault, NoMemory, NotBuilt}
 use Rattle.cd_app.specs.Running.{IsBuilt}

@@ -18,7 +18,7 @@ use Rattle.cd_check.specs.There.{IsRefused, DocumentIsJudged}
 use Rattle.cd_core.specs.Single.{OnlyCopies, NeverHalts}
 use Rattle.cd_parse.specs.Laws.{ParsedIsWellRead}
 use Rattle.cd_parse.specs.WellRead.{WellRead}
-use Rattle.cd_parse.specs.Reading.{parse}
+use Rattle.cd_parse.specs.Parsing.{parse}
 use Rattle.cd_command.specs.declared.command.Command.{Command}
 use Rattle.cd_command.specs.declared.command.Command.TheVariants.{Check, Read, Lift, Run, Make}
 use Rattle.cd_command.specs.CommandLine.{command_in}

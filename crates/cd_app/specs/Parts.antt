@@ -7,7 +7,7 @@ use Rattle.cd_tree.specs.declared.document.Document.{Document}
 use Rattle.cd_tree.specs.declared.document.Fault.{Fault}
 use Rattle.cd_check.specs.Checking.{Passes}
 use Rattle.cd_cover.specs.Plans.{PlanModel}
-use Rattle.cd_parse.specs.Reading.{parse}
+use Rattle.cd_parse.specs.Parsing.{parse}
 use Rattle.cd_parse.specs.WellRead.{WellRead}
 use Rattle.cd_app.specs.declared.actions.Action.{Action}
 use Rattle.cd_app.specs.declared.actions.Action.TheVariants as action
