@@ -12,6 +12,7 @@ use Rattle.cd_tree.specs.declared.domain.How.{How}
 use Rattle.cd_tree.specs.declared.domain.How.TheVariants as kept
 use Rattle.cd_tree.specs.declared.refusal.Refusal.{Refusal}
 use Rattle.cd_tree.specs.KindSets.{no_kinds, halting}
+use Rattle.cd_tree.specs.Limits.{faults_limit}
 use Rattle.cd_tree.specs.TreeModel.{TreeModel}
 use Rattle.cd_check.specs.Checking.{Passes}
 use Rattle.cd_check.specs.There.{IsRefused, DocumentIsJudged}
@@ -89,7 +90,7 @@ said_some text_of input = (said (text_of input), refl)
 
 -- a document that was read has no more strikes than a script may have
 few_strikes : (document : Document) → WellRead document → length document.faults < 2 ^ 32
-few_strikes document well = let few : length document.faults ≤ 256 = well.few_faults in omega arith
+few_strikes document well = let few : length document.faults ≤ faults_limit = well.few_faults in omega arith
 
 judged_some : ParsedIsWellRead → DocumentIsJudged → (Next : Accepted → Outcome → Type 0) → ComesSome Next → (bytes : List ℕ)
     → (outcome : Outcome) × Judged one_document bytes Next outcome
