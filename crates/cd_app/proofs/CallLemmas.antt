@@ -1,14 +1,12 @@
 -- From the parts of a call to the outcome that it comes to.
-use Rattle.std.proofs.Common.{◌≡◌, ◌⊎◌, ℕ, ◌+◌, ◌≤◌, Bool, List, [], ◌++◌, length, Option, None, Some, Result, Ok, Err, refl, ap, sym, subst, ◌∙◌, inl, inr, arith}
+use Rattle.std.proofs.Common.{◌≡◌, ℕ, Bool, List, [], Option, None, Some, Result, Ok, Err, refl, ap, sym, subst, ◌∙◌, inl, inr, arith}
 use Rattle.std.specs.Prelude.{option_map, option_and_then}
 use Rattle.std.specs.Io.KnownBytes.{Consumes}
-use Rattle.cd_base.specs.Ends.{SourceModel, SinkModel, Took, TookAtMost}
+use Rattle.cd_base.specs.Ends.{SourceModel, SinkModel, TookAtMost}
 use Rattle.cd_tree.specs.declared.document.Document.{Document}
 use Rattle.cd_tree.specs.declared.document.Fault.{Fault}
-use Rattle.cd_tree.specs.declared.event.Cause.{Cause}
 use Rattle.cd_tree.specs.declared.refusal.Refusal.{Refusal}
 use Rattle.cd_check.specs.Checking.{FirstRefusalOf, Passes}
-use Rattle.cd_parse.specs.Reading.{parse}
 use Rattle.cd_field.specs.FieldModel.{FieldModel}
 use Rattle.cd_command.specs.declared.command.Command.{Command}
 use Rattle.cd_command.specs.CommandLine.{command_in}
@@ -18,7 +16,7 @@ use Rattle.cd_app.specs.declared.status.Status.TheVariants.{NoMemory}
 use Rattle.cd_app.specs.Running.{HoldsRun, IsBuilt}
 use Rattle.cd_app.specs.Deeds.{Intake, one_document, Accepted, Deed, makes, says, runs, deed_of, deed_in, intake_of, intake_in}
 use Rattle.cd_app.specs.Outcomes.{Input, whole, too_much, unread, Gave, AcceptsBytes, Outcome, no_command, made, not_read, refused, said, not_built, ran, Runs, ComesOfInput, ComesOf}
-use Rattle.cd_app.specs.Calls.{Call, call_of, Comes, Leaves, Ends, TookWithin, ComesToRun, RanOut, Meets}
+use Rattle.cd_app.specs.Calls.{Call, call_of, Comes, Ends, TookWithin, Meets}
 use Rattle.cd_app.specs.Parts.{IsRead, IsNone, Receives, ReadsBytes}
 
 -- ---- what the words ask for

@@ -1,5 +1,5 @@
 -- Some outcome is due, whatever the words and the bytes.
-use Rattle.std.proofs.Common.{◌≡◌, ◌⊎◌, ℕ, zero, suc, ◌^◌, ◌<◌, ◌≤◌, ◌==◌, Bool, true, false, List, [], ◌∷◌, length, Option, None, Some, Result, Ok, Err, All, refl, inl, inr, sym, ◌∙◌, arith}
+use Rattle.std.proofs.Common.{◌≡◌, ◌⊎◌, ℕ, suc, ◌^◌, ◌<◌, ◌≤◌, ◌==◌, Bool, true, false, List, [], ◌∷◌, length, Option, None, Some, Result, Ok, Err, All, refl, inl, inr, sym, ◌∙◌, arith}
 use Rattle.std.specs.Prelude.{option_map}
 use Rattle.std.proofs.lemmas.Bool.{true≢false}
 use Rattle.std.proofs.lemmas.Bool.Decides.{Decides-eqb}
@@ -25,7 +25,7 @@ use Rattle.cd_command.specs.declared.command.Command.TheVariants.{Check, Read, L
 use Rattle.cd_command.specs.CommandLine.{command_in}
 use Rattle.cd_make.specs.Making.{make_text}
 use Rattle.cd_app.specs.Running.{IsBuilt, check_text, read_text, lift_text}
-use Rattle.cd_app.specs.Deeds.{Intake, one_document, Accepted, Deed, deed_of}
+use Rattle.cd_app.specs.Deeds.{one_document, Accepted, deed_of}
 use Rattle.cd_app.specs.Outcomes.{Input, whole, too_much, AreInput, AcceptsBytes, Outcome, no_command, made, refused, said, not_built, ran, Runs, Judged, ComesOfInput, ComesOf}
 use Rattle.cd_app.specs.Due.{OutcomeIsThere}
 

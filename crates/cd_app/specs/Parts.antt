@@ -1,12 +1,10 @@
 -- What the parts of a call answer.
-use Rattle.std.specs.Prelude.{◌≡◌, ◌⊎◌, ℕ, List, Option, None, Some, Result, Ok, Err}
+use Rattle.std.specs.Prelude.{◌≡◌, ◌⊎◌, ℕ, List, Result, Ok, Err}
 use Rattle.cd_base.specs.Ends.{SourceModel, TookAtMost}
 use Rattle.cd_base.specs.declared.sink.WriteStop.{WriteStop}
 use Rattle.cd_base.specs.declared.sink.WriteStop.TheVariants as write
 use Rattle.cd_tree.specs.declared.document.Document.{Document}
 use Rattle.cd_tree.specs.declared.document.Fault.{Fault}
-use Rattle.cd_tree.specs.Domains.{root_of}
-use Rattle.cd_tree.specs.Meaning.{node_need}
 use Rattle.cd_check.specs.Checking.{Passes}
 use Rattle.cd_cover.specs.Plans.{PlanModel}
 use Rattle.cd_parse.specs.Reading.{parse}
@@ -17,10 +15,10 @@ use Rattle.cd_app.specs.declared.receive.Stop.{Stop}
 use Rattle.cd_app.specs.declared.receive.Stop.TheVariants as stop
 use Rattle.cd_app.specs.declared.status.Status.{Status}
 use Rattle.cd_app.specs.declared.status.Status.TheVariants.{WriteFault, NoMemory}
-use Rattle.cd_app.specs.Running.{check_text, read_text, lift_text}
+use Rattle.cd_app.specs.Running.{need_of, check_text, read_text, lift_text}
 use Rattle.cd_app.specs.Deeds.{Intake, one_document, Deed, says}
-use Rattle.cd_app.specs.Outcomes.{Input, whole, too_much, unread, Gave, ComesOfInput, refused}
-use Rattle.cd_app.specs.Calls.{Call, Standing, by_text, standing}
+use Rattle.cd_app.specs.Outcomes.{whole, too_much, unread, Gave}
+use Rattle.cd_app.specs.Calls.{Standing, by_text, standing}
 
 -- ---- receiving a document
 
@@ -63,7 +61,7 @@ deed_for to = says one_document (λ input. text_for to input.document input.scri
 -- the checks pass a document with a script, and its program needs so many blocks
 pub record IsSound (document : Document) (need : ℕ) (script : List Fault) : Type 0 where
   pub passes : Passes document script
-  pub needs : need ≡ node_need (root_of document.tree.domains)
+  pub needs : need ≡ need_of document.tree
 
 -- ---- statuses of writes
 

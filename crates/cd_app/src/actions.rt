@@ -2,12 +2,10 @@
 
 ghost use Rattle.std.specs.Prelude.{◌≡◌, ◌≤◌, ℕ, List, Some, Err, length, MatchResult};
 ghost use Rattle.cd_base.specs.Ends.{WriteAll};
-ghost use Rattle.cd_tree.specs.Domains.{root_of};
 ghost use Rattle.cd_tree.specs.Limits.{faults_limit};
 ghost use Rattle.cd_field.specs.FieldModel.{FieldModel};
-ghost use Rattle.cd_tree.specs.Meaning.{node_need};
 ghost use Rattle.cd_check.specs.Checking.{Checks};
-ghost use Rattle.cd_app.specs.Running.{check_text, read_text, lift_text};
+ghost use Rattle.cd_app.specs.Running.{need_of, check_text, read_text, lift_text};
 ghost use Rattle.cd_app.specs.Deeds.{deed_in};
 ghost use Rattle.cd_app.specs.Calls.{Meets, call_of};
 ghost use Rattle.cd_app.specs.Parts.{IsSound, deed_for, text_for};
@@ -72,7 +70,7 @@ fn passes(alloc: Global, document: &Document) -> Result<(u32, Script), Refuse>
 
 // The blocks that a run of the whole program needs.
 fn whole_need(plan: &Plan) -> u32
-    ensures { result ≡ node_need (root_of plan.now.tree.domains) }
+    ensures { result ≡ need_of plan.now.tree }
 {
     prove!(0 < plan.tree().count());
     plan.need(NodeId(0))
@@ -113,7 +111,7 @@ fn write_check<K: Sink>(
     need: u32,
     sink: &mut K,
 ) -> Result<(), WriteStop>
-    requires { need ≡ node_need (root_of document.now.tree.domains) }
+    requires { need ≡ need_of document.now.tree }
     ensures { WriteAll (K.model sink.old) (K.model sink.new) (check_text document.now) result }
 {
     match write_accepted(alloc, document, need, sink) {

@@ -1,4 +1,4 @@
-use Rattle.std.proofs.Common.{◌≡◌, Some, ap, subst, sym}
+use Rattle.std.proofs.Common.{◌≡◌, Some, ap, subst}
 use Rattle.std.specs.Prelude.{option_map}
 use Rattle.cd_base.specs.Ends.{SourceModel, SinkModel}
 use Rattle.cd_app.specs.Deeds.{deed_of, deed_in, one_document, runs}
