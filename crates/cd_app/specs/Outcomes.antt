@@ -1,5 +1,5 @@
 -- What comes of a command: a line for each deed and each input; and the status and the text of each outcome.
-use Rattle.std.specs.Prelude.{◌≡◌, ◌⊎◌, ℕ, ◌<◌, ◌≤◌, Bool, List, length, Option, None, Some, Result, Ok, Err}
+use Rattle.std.specs.Prelude.{◌≡◌, ◌⊎◌, ℕ, ◌<◌, ◌≤◌, Bool, List, length, Option, None, Some, Ok, Err}
 use Rattle.cd_base.specs.Ends.{SourceModel, ReadAll}
 use Rattle.cd_base.specs.declared.transfer.ReadStop.TheVariants as stop
 use Rattle.cd_tree.specs.declared.document.Document.{Document}

@@ -1,8 +1,10 @@
+//! What is left on a machine after a run: words and events.
+
 ghost use Rattle.std.specs.Prelude.{◌≡◌, ◌<◌, IsTrue, IfOk, false};
 ghost use Rattle.cd_field.specs.Maps.{machine_of};
 ghost use Rattle.cd_tests.specs.Look.{HasFourWords, HasFourWordsLeft, FourArePresent, IsRun, comes_behind_a_run};
 
-use crate::calls::{EXHAUSTED, FILL, RECOVERED, call_joined};
+use super::calls::{EXHAUSTED, FILL, RECOVERED, call_joined};
 use cd_app::{Status, run_cd};
 use cd_base::{MemorySink, MemorySource, Place, Sink, Source, Text};
 use cd_command::Words;
@@ -53,7 +55,7 @@ fn runs<S: Source, K: Sink, F: Field>(
     comes_behind_a_run(&status)
 }
 
-// The first four words of the machine behind the call `run` on a text; none where the run did not come to its end.
+// The first four words of the machine after the call `run` on a text; none where the run did not come to its end.
 fn words_behind(alloc: Global, text: &str, failing_write: u64) -> Result<Option<[u64; 4]>, Fail>
     requires { HasFourWords text.now }
 {
@@ -79,7 +81,7 @@ fn four_words(machine: &MapField) -> [u64; 4]
     ]
 }
 
-// As `FILL`, with two strikes behind it.
+// As `FILL`, with two strikes after it.
 const STRUCK: &str =
     "cd 1\nregion y 4 const 0\ndomain root retry 2 detects flip\npreserve y copy\nfill y 7\nend\nfaults\nstrike root 1 1 flip y[0] 255\nstrike root 2 1 flip y[0] 1\n";
 
@@ -91,74 +93,85 @@ fn words_behind_fill(alloc: Global, failing_write: u64) -> Result<Option<[u64; 4
     words_behind(alloc, FILL, failing_write)
 }
 
+/// Fails unless these are the words that a run left.
+fn are(found: Option<[u64; 4]>, wanted: [u64; 4]) -> Result<(), Fail> {
+    if found == Some(wanted) {
+        return Ok(());
+    }
+    Err(Fail::new(format_args!("{found:?} in place of {wanted:?}")))
+}
+
 #[test]
-fn words_are_there_behind_a_run(rt: HostRuntime) -> Result<(), Fail> {
-    let alloc = rt.alloc();
-    assert_eq!(rt; words_behind_fill(alloc, 0)?, Some([7, 7, 7, 7]));
-    assert_eq!(rt; words_behind_strikes(alloc)?, Some([0, 0, 0, 0]));
-    Ok(())
+fn words_are_there_after_a_run(rt: HostRuntime) -> Result<(), Fail> {
+    are(words_behind_fill(rt.alloc(), 0)?, [7, 7, 7, 7])?;
+    are(words_behind_strikes(rt.alloc())?, [0, 0, 0, 0])
 }
 
 #[test]
 fn a_fault_at_any_write_leaves_the_words(rt: HostRuntime) -> Result<(), Fail> {
     for call in 1..50 {
-        let words = words_behind_fill(rt.alloc(), call)?;
-        assert_eq!(rt; words, Some([7, 7, 7, 7]), "at {call}");
+        are(words_behind_fill(rt.alloc(), call)?, [7, 7, 7, 7])?;
+    }
+    Ok(())
+}
+
+const NODE: NodeId = NodeId(0);
+
+const SAVED: Event = Event::Saved {
+    node: NODE,
+    entry: 0,
+    how: Kept::Copy,
+};
+
+const REFILLED: Event = Event::Refilled {
+    node: NODE,
+    entry: 0,
+};
+
+const START: Event = Event::Reached {
+    node: NODE,
+    point: 0,
+};
+
+const END: Event = Event::Reached {
+    node: NODE,
+    point: 1,
+};
+
+/// The events of a try that comes to its end.
+fn tried(number: u64, entry: Event, kinds: Kinds) -> [Event; 5] {
+    let begin = Event::Begin { node: NODE, number };
+    [begin, entry, START, END, Event::Found { node: NODE, kinds }]
+}
+
+/// The machine has these events after the call `run` on a document with strikes: a try that found a flip, one that found
+/// these kinds, and the last ones.
+fn leaves(alloc: Global, strikes: &str, kinds: Kinds, last: &[Event]) -> Result<(), Fail> {
+    let mut machine = MapField::empty(alloc);
+    call_joined(alloc, &["run"], FILL, strikes, &mut machine)?;
+    let flip = Kinds::none().with(Kind(0));
+    let mut events = Vec::from_slice(alloc, &tried(1, SAVED, flip))?;
+    events.extend_from_slice(&tried(2, REFILLED, kinds))?;
+    events.extend_from_slice(last)?;
+    for (k, event) in events.iter().enumerate() {
+        if machine.event(k as u64) != Some(*event) {
+            return Err(Fail::new(format_args!("event {k} is not {event:?}")));
+        }
+    }
+    if machine.event(events.len() as u64).is_some() {
+        return Err(Fail::new("there are more events"));
     }
     Ok(())
 }
 
 #[test]
 fn a_recovered_run_leaves_its_record(rt: HostRuntime) -> Result<(), Fail> {
-    let node = NodeId(0);
-    let none = Kinds::none();
-    let mut machine = MapField::empty(rt.alloc());
-    call_joined(rt.alloc(), &["run"], FILL, RECOVERED, &mut machine)?;
-    for (k, event) in [
-        (0, Event::Begin { node, number: 1 }),
-        (
-            1,
-            Event::Saved {
-                node,
-                entry: 0,
-                how: Kept::Copy,
-            },
-        ),
-        (2, Event::Reached { node, point: 0 }),
-        (3, Event::Reached { node, point: 1 }),
-        (
-            4,
-            Event::Found {
-                node,
-                kinds: none.with(Kind(0)),
-            },
-        ),
-        (5, Event::Begin { node, number: 2 }),
-        (6, Event::Refilled { node, entry: 0 }),
-        (7, Event::Reached { node, point: 0 }),
-        (8, Event::Reached { node, point: 1 }),
-        (9, Event::Found { node, kinds: none }),
-        (10, Event::Complete { node }),
-    ] {
-        assert_eq!(rt; machine.event(k), Some(event), "event {k}");
-    }
-    assert_eq!(rt; machine.event(11), None);
-    Ok(())
+    let last = [Event::Complete { node: NODE }];
+    leaves(rt.alloc(), RECOVERED, Kinds::none(), &last)
 }
 
 #[test]
 fn an_exhausted_run_ends_with_its_refill(rt: HostRuntime) -> Result<(), Fail> {
-    let node = NodeId(0);
-    let kinds = Kinds::none().with(Kind(0));
-    let mut machine = MapField::empty(rt.alloc());
-    call_joined(rt.alloc(), &["run"], FILL, EXHAUSTED, &mut machine)?;
-    for (k, event) in [
-        (9, Event::Found { node, kinds }),
-        (10, Event::Refilled { node, entry: 0 }),
-        (11, Event::Escalate { node }),
-    ] {
-        assert_eq!(rt; machine.event(k), Some(event), "event {k}");
-    }
-    assert_eq!(rt; machine.event(12), None);
-    Ok(())
+    let last = [REFILLED, Event::Escalate { node: NODE }];
+    leaves(rt.alloc(), EXHAUSTED, Kinds::none().with(Kind(0)), &last)
 }

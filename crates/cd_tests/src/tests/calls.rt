@@ -1,3 +1,5 @@
+//! Whole calls over a source, a sink and a machine in memory, and the helpers by which tables of them are tried.
+
 use cd_app::{Status, run_cd};
 use cd_base::{MemorySink, MemorySource, Text};
 use cd_command::Words;
@@ -12,10 +14,10 @@ pub(crate) const FILL: &str =
 /// What it is reported as where nothing strikes.
 pub(crate) const FILLED: &str = "committed\nregion y 7 7 7 7\nbegins root 1\ntotal 1\n";
 
-/// Strikes behind it that the root recovers from.
+/// Strikes after it that the root recovers from.
 pub(crate) const RECOVERED: &str = "faults\nstrike root 1 1 flip y[0] 255\n";
 
-/// Strikes behind it that use up the root's tries.
+/// Strikes after it that use up the root's tries.
 pub(crate) const EXHAUSTED: &str =
     "faults\nstrike root 1 1 flip y[0] 255\nstrike root 2 1 flip y[0] 1\n";
 
@@ -23,7 +25,7 @@ pub(crate) const EXHAUSTED: &str =
 pub(crate) const USAGE: &str =
     "usage: cd check|read|run|make|lift [--workers N] [--record] [--size N]\n";
 
-/// What a call gave: its status as a number, what it wrote, and whether the machine's record has an event behind it.
+/// What a call gave: its status as a number, what it wrote, and whether the machine's record has an event after it.
 #[derive(Drop)]
 pub(crate) struct Answer {
     pub status: u8,
@@ -67,8 +69,7 @@ pub(crate) fn call_failing(
     alloc: Global,
     words: &[&str],
     text: &str,
-    failing_read: u64,
-    failing_write: u64,
+    (failing_read, failing_write): (u64, u64),
     machine: &mut MapField,
 ) -> Result<Answer, Fail> {
     let words = words_of(alloc, words)?;
@@ -92,7 +93,7 @@ fn answered(
     })
 }
 
-/// A call with these words on two texts, one behind the other, where nothing fails.
+/// A call with these words on two texts, one after the other, where nothing fails.
 pub(crate) fn call_joined(
     alloc: Global,
     words: &[&str],
@@ -115,7 +116,7 @@ fn failed(words: &[&str], why: &str, case: &Case) -> Fail {
     Fail::new(format_args!("{words:?} {why}: {back} behind {front}"))
 }
 
-/// Whether the machine's record has an event behind a call, which fails the test unless it answers as the case says.
+/// Whether the machine's record has an event after a call, which fails the test unless it answers as the case says.
 fn answers(
     alloc: Global,
     words: &[&str],
@@ -134,7 +135,7 @@ fn answers(
 }
 
 /// A call that runs a document: it answers as the case says, and the record begins exactly where the status is of a run.
-pub(crate) fn runs(alloc: Global, words: &[&str], case: &Case) -> Result<(), Fail> {
+fn runs(alloc: Global, words: &[&str], case: &Case) -> Result<(), Fail> {
     let mut machine = MapField::empty(alloc);
     let (_, _, status, _) = case;
     if answers(alloc, words, case, &mut machine)? == (*status < 2) {
@@ -152,13 +153,58 @@ pub(crate) fn tells(alloc: Global, words: &[&str], case: &Case) -> Result<(), Fa
     Ok(())
 }
 
-/// A call of `check` that gives the case's status and writes a text that begins with the case's.
-pub(crate) fn begins_with(alloc: Global, case: &Case) -> Result<(), Fail> {
+/// A call that gives the case's status and writes a text that begins with the case's, or ends with it.
+pub(crate) fn touches(
+    alloc: Global,
+    words: &[&str],
+    at_front: bool,
+    case: &Case,
+) -> Result<(), Fail> {
     let mut machine = MapField::empty(alloc);
-    let (front, back, status, line) = case;
-    let answer = call_joined(alloc, &["check"], front, back, &mut machine)?;
-    if answer.status == *status && answer.written.as_slice().starts_with(line.as_bytes()) {
+    let (front, back, status, part) = case;
+    let answer = call_joined(alloc, words, front, back, &mut machine)?;
+    if answer.status == *status && has_part(answer.written.as_slice(), at_front, part.as_bytes()) {
         return Ok(());
     }
-    Err(failed(&["check"], "begins otherwise", case))
+    Err(failed(words, "writes another text", case))
+}
+
+fn has_part(text: &[u8], at_front: bool, part: &[u8]) -> bool {
+    if at_front {
+        text.starts_with(part)
+    } else {
+        text.ends_with(part)
+    }
+}
+
+/// Calls that run documents, one for each case.
+pub(crate) fn all_run(alloc: Global, words: &[&str], cases: &[Case]) -> Result<(), Fail> {
+    for case in cases {
+        runs(alloc, words, case)?;
+    }
+    Ok(())
+}
+
+/// Calls that run nothing, one for each case.
+pub(crate) fn all_tell(alloc: Global, words: &[&str], cases: &[Case]) -> Result<(), Fail> {
+    for case in cases {
+        tells(alloc, words, case)?;
+    }
+    Ok(())
+}
+
+/// Calls of which each text begins with the case's.
+pub(crate) fn all_begin(alloc: Global, words: &[&str], cases: &[Case]) -> Result<(), Fail> {
+    for case in cases {
+        touches(alloc, words, true, case)?;
+    }
+    Ok(())
+}
+
+/// Calls of which each text ends with the case's.
+pub(crate) fn all_end(alloc: Global, words: &[&str], cases: &[Case]) -> Result<(), Fail> {
+    for case in cases {
+        touches(alloc, words, false, case)?;
+    }
+    Ok(())
 }

@@ -1,5 +1,5 @@
 use Rattle.cd_tests.proofs.LookLemmas.{one_word_runs}
-use Rattle.cd_tests.proofs.machines.run_alone.Goals as goal
+use Rattle.cd_tests.proofs.tests.machines.run_alone.Goals as goal
 
 pub returns : goal.returns
 returns c =

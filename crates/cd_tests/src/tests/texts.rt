@@ -1,33 +1,28 @@
 //! Documents of several domains, each without its strikes and with them apart.
 
-/// A root that links one domain below it, which fills its region.
-pub(crate) const NESTED: &str = "\
-cd 1
-region y 4 const 0
-domain root retry 2 detects node
-preserve y copy
-domain a retry 1 detects flip
-preserve y copy
-fill y 7
-end
-end
-";
+// A document with a root and one domain below it, which fills their region: what stands before the region, then what the
+// root and the one below are.
+macro_rules! nested {
+    ($head:literal, $root:literal, $below:literal) => {
+        concat!(
+            $head,
+            "region y 4 const 0\ndomain root ",
+            $root,
+            "\npreserve y copy\ndomain a ",
+            $below,
+            "\npreserve y copy\nfill y 7\nend\nend\n"
+        )
+    };
+}
+
+/// A root that finds what ends the one below it.
+pub(crate) const NESTED: &str = nested!("cd 1\n", "retry 2 detects node", "retry 1 detects flip");
 
 /// The one below has no second try, so the root begins again.
 pub(crate) const NESTED_STRUCK: &str = "faults\nstrike root/a 1 1 flip y[0] 255\n";
 
 /// The same with a root that finds what is left to it.
-pub(crate) const LEAKING: &str = "\
-cd 1
-region y 4 const 0
-domain root retry 2 detects link
-preserve y copy
-domain a retry 1 detects flip
-preserve y copy
-fill y 7
-end
-end
-";
+pub(crate) const LEAKING: &str = nested!("cd 1\n", "retry 2 detects link", "retry 1 detects flip");
 
 /// The one below does not find what struck it, and the root does.
 pub(crate) const LEAKING_STRUCK: &str = "faults\nstrike root/a 1 1 link y[1] 4\n";
@@ -72,7 +67,7 @@ end
 end
 ";
 
-/// What the root copied was struck behind the copying; then the one below is struck.
+/// What the root copied was struck after the copying; then the one below is struck.
 pub(crate) const REFERRING_STRUCK: &str = "\
 faults
 strike root 1 0 link x[0] 8
@@ -107,49 +102,25 @@ end
 pub(crate) const SHARING_STRUCK: &str = "faults\nstrike root/b 1 0 flip x[0] 1\n";
 
 /// Kinds that the document names, of which one halts.
-pub(crate) const HALTING: &str = "\
-cd 2
-kind soft
-kind hard halt
-region y 4 const 0
-domain root retry 2 detects hard
-preserve y copy
-domain a retry 3 detects soft
-preserve y copy
-fill y 7
-end
-end
-";
+pub(crate) const HALTING: &str = nested!(
+    "cd 2\nkind soft\nkind hard halt\n",
+    "retry 2 detects hard",
+    "retry 3 detects soft"
+);
 
 /// The same where the one below finds what halts it.
-pub(crate) const HALTING_FOUND: &str = "\
-cd 2
-kind soft
-kind hard halt
-region y 4 const 0
-domain root retry 2 detects hard
-preserve y copy
-domain a retry 3 detects soft,hard
-preserve y copy
-fill y 7
-end
-end
-";
+pub(crate) const HALTING_FOUND: &str = nested!(
+    "cd 2\nkind soft\nkind hard halt\n",
+    "retry 2 detects hard",
+    "retry 3 detects soft,hard"
+);
 
 /// The same where the root has no second try.
-pub(crate) const HALTING_LAST: &str = "\
-cd 2
-kind soft
-kind hard halt
-region y 4 const 0
-domain root retry 1 detects hard
-preserve y copy
-domain a retry 3 detects soft
-preserve y copy
-fill y 7
-end
-end
-";
+pub(crate) const HALTING_LAST: &str = nested!(
+    "cd 2\nkind soft\nkind hard halt\n",
+    "retry 1 detects hard",
+    "retry 3 detects soft"
+);
 
 pub(crate) const HALTED: &str = "faults\nstrike root/a 1 0 hard y[0] 1\n";
 
@@ -192,6 +163,38 @@ end
 end
 end
 ";
+
+/// A root that finds the one kind that the document names.
+pub(crate) const NAMED: &str =
+    "cd 2\nkind seu\nregion y 4 const 0\ndomain root retry 2 detects seu\npreserve y copy\nfill y 7\nend\n";
+
+/// It has no try left.
+pub(crate) const NAMED_STRUCK: &str =
+    "faults\nstrike root 1 1 seu y[0] 255\nstrike root 2 1 seu y[0] 1\n";
+
+/// A root that has its words made anew by a pattern, up to its first item.
+pub(crate) const ANEW: &str =
+    "cd 1\nregion y 4 const 0\ndomain root retry 2 detects flip\npreserve y regen const 1\n";
+
+/// A root that copies its words, up to its first item.
+pub(crate) const COPIED: &str =
+    "cd 1\nregion y 4 const 0\ndomain root retry 2 detects flip\npreserve y copy\n";
+
+/// Tries of the root, of which strikes may take all but one.
+pub(crate) const TRIED: &str = "\
+cd 1
+region y 4 const 0
+domain root retry 100 detects flip
+preserve y copy
+fill y 7
+end
+faults
+";
+
+/// All but the last of its tries are struck, and all of them.
+pub(crate) const STRUCK_99: &str = "for a in 1..100\nstrike root a 1 flip y[0] 1\nend\n";
+
+pub(crate) const STRUCK_100: &str = "for a in 1..101\nstrike root a 1 flip y[0] 1\nend\n";
 
 /// Of these the tenth never comes.
 pub(crate) const PRODUCT_STRUCK: &str = "\

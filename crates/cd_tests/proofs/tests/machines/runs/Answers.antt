@@ -1,7 +1,7 @@
 use Rattle.std.proofs.Common.{◌≡◌, List, ℕ, false, sym, ◌∙◌}
 use Rattle.cd_app.specs.Calls.{Call, call_of}
 use Rattle.cd_tests.proofs.LookLemmas.{four_present}
-use Rattle.cd_tests.proofs.machines.runs.Goals as goal
+use Rattle.cd_tests.proofs.tests.machines.runs.Goals as goal
 
 pub returns : goal.returns
 returns g c =
