@@ -1,6 +1,5 @@
 pub mod WorkedKeeps
 pub mod WorkedTries
-pub mod PlaceTests
 pub mod Putting
 pub mod PieceWords
 pub mod Steps

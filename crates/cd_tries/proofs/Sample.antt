@@ -1,7 +1,7 @@
 -- The tests' domain can be tried, and its words are present after its tries.
 use Rattle.std.proofs.Common.{◌≡◌, ℕ, zero, suc, ◌+◌, ◌<◌, ◌≤◌, Bool, true, false, ◌||◌, ◌==◌, List, [], ◌∷◌, ◌++◌, length, get_or, Option, Some, None, IsSomeAnd, All, unwrap_or, arith, refl, ap, subst, sym, ◌∙◌}
 use Rattle.std.specs.Prelude.{slice_get}
-use Rattle.std.proofs.lemmas.Bool.{eq-eqb, and_from}
+use Rattle.std.proofs.lemmas.Bool.{and_from, cond-false, cond-true, eq-eqb}
 use Rattle.std.proofs.lemmas.Option.{slice_get_within}
 use Rattle.cd_base.specs.declared.place.Place.{Place}
 use Rattle.cd_base.specs.Words.{Words, in_range}
@@ -26,7 +26,7 @@ use Rattle.cd_tries.specs.Running.{Means, means, Trial, Tried, tried_from, tried
 use Rattle.cd_tries.specs.Sample.{sample, sample_entries, sample_pass, sample_keeps, IsSample, HasSample, SampleIsHere, StrikesSample}
 use Rattle.cd_tries.specs.TryLaws.{Stays}
 use Rattle.cd_tries.proofs.PieceWords.{some_is}
-use Rattle.cd_tries.proofs.PlaceTests.{by_test, chosen, other}
+use Rattle.cd_base.proofs.BoolLemmas.{by_test, or-none}
 use Rattle.cd_tries.proofs.Staying.{points_keep, runs_still, trying_again_keeps, tries_keep}
 use Rattle.cd_tries.proofs.Trying.{can_run}
 
@@ -34,12 +34,8 @@ all_one : {A : Type 0} (P : A → Type 0) (x : A) → P x → All P (x ∷ [])
 all_one {A} P x is zero d short = is
 all_one {A} P x is (suc k) d short = absurd (let none : ⊥ = omega (arith, short) in none)
 
-or_none : (b : Bool) → (b || false) ≡ true → b ≡ true
-or_none true e = e
-or_none false e = e
-
 in_sample : (entries : List Entry) (p : Place) → entries ≡ sample_entries → in_entries entries p ≡ true → in_range sample p ≡ true
-in_sample entries p is h = or_none (in_range sample p) (ap (λ (es : List Entry). in_entries es p) (sym is) ∙ h)
+in_sample entries p is h = sym (or-none (in_range sample p)) ∙ ap (λ (es : List Entry). in_entries es p) (sym is) ∙ h
 
 sample_sound : (domain : Domain) → IsSample domain → IsSound domain
 sample_sound domain is =
@@ -70,7 +66,7 @@ abbrev words : List ℕ
 words = 5 ∷ 5 ∷ 5 ∷ 5 ∷ []
 
 known_is : (id : KeepId) → (sample_pass id).known id ≡ Some words
-known_is id = chosen (same_id id id) (Some words) None (same_id_is id)
+known_is id = cond-true (same_id id id) (Some words) None (same_id_is id)
 
 sample_keeps_fit : (id : KeepId) → KeepsFit (sample_pass id).known sample_entries (sample_keeps id)
 sample_keeps_fit id =
@@ -95,9 +91,9 @@ sample_holds : (id : KeepId) → HoldsThese (sample_pass id) (all_ids (sample_ke
 sample_holds id = record {
   each = λ q. by_test (same_id id q)
       (λ t. let one : ℕ = 1 in let none : ℕ = 0 in
-      chosen (same_id id q) one none t ∙ sym (ap (λ (n : ℕ). n + 0) (chosen (same_id id q) one none t)))
+      cond-true (same_id id q) one none t ∙ sym (ap (λ (n : ℕ). n + 0) (cond-true (same_id id q) one none t)))
       (λ f. let one : ℕ = 1 in let none : ℕ = 0 in
-      other (same_id id q) one none f ∙ sym (ap (λ (n : ℕ). n + 0) (other (same_id id q) one none f)));
+      cond-false (same_id id q) one none f ∙ sym (ap (λ (n : ℕ). n + 0) (cond-false (same_id id q) one none f)));
   held = refl;
 }
 
