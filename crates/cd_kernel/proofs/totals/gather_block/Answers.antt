@@ -3,7 +3,7 @@ use Rattle.cd_base.specs.Words.{Words}
 use Rattle.cd_tree.specs.Operations.{length_of, nth_word}
 use Rattle.cd_kernel.specs.declared.totals.Gathering.{Gathering}
 use Rattle.cd_kernel.specs.declared.totals.Gathering.TheVariants.{Multiplying}
-use Rattle.cd_kernel.specs.Computing.{gathered_on, CanGather, IsHere}
+use Rattle.cd_kernel.specs.Computing.{gathered_on, CanGather}
 use Rattle.cd_kernel.proofs.Sums.{sum_read, adding_read, comparing_read}
 use Rattle.cd_kernel.proofs.totals.gather_block.Goals as goal
 
