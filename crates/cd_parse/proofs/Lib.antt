@@ -1,15 +1,13 @@
 pub mod ParseLemmas
 pub mod SoundWellRead
-mod SoundToldStatements
 mod SoundTold
 mod SoundNumbers
 pub mod SoundKeeps
-mod SoundNamedStatements
 mod SoundNamed
 mod SoundPlaces
 pub mod SoundParsing
-pub mod SoundBodies
-mod SoundStatements
+pub mod SoundStatements
+pub mod Found
 mod SoundNames
 mod SoundOps
 mod SoundRanges
@@ -31,3 +29,4 @@ pub mod UnrolledLemmas
 pub mod TurnLemmas
 pub mod RoomLemmas
 pub mod DraftLemmas
+mod Stages

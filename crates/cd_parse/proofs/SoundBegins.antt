@@ -17,9 +17,9 @@ use Rattle.cd_parse.specs.Heads.{domain_named}
 use Rattle.cd_parse.specs.Sound.{one_group, open_groups, ids_in, named_by, FitsGroup, IsLevel, IsStaged, IsSound}
 use Rattle.cd_parse.proofs.SoundWalk.{names_append}
 use Rattle.cd_parse.proofs.SoundLists.{Grown, Head, head_before, grown_by_one, grown_not, push_length, push_new, push_old, changed_length}
-use Rattle.cd_parse.proofs.SoundSteps.{some_and, children_kept, Pushed, deeper_by, ends_by, walk_grown, walk_begun, walk_ended}
+use Rattle.cd_parse.proofs.SoundSteps.{some_and, children_kept, Pushed, put_at, walk_grown, walk_begun, walk_ended}
 use Rattle.cd_parse.proofs.SoundDomains.{each_kept, each_pushed, siblings_kept, siblings_pushed}
-use Rattle.cd_parse.proofs.SoundChanges.{at_levels, items_in, entries_in, named_more, items_more, entries_same, grown_item, each_item}
+use Rattle.cd_parse.proofs.SoundChanges.{at_levels, in_domain, items_in, entries_in, named_more, items_more, entries_same, grown_item, each_item}
 
 -- what a domain's statement has found: a name that is no path and no sibling's, tries and kinds within their limits
 pub record Begins (kinds : List KindName) (domains : List Domain) (parent : Option NodeId) (name : List ℕ) (tries set : ℕ) : Type 0 where
@@ -53,7 +53,7 @@ alone_in at domains more grown same parent name alone k domain is same_parent sa
 
 -- a domain begins in one that is open, which names it in itself or in its group
 sound_begun : (draft : DraftModel) (at : ℕ) (group other : Option (List NodeId)) (outer : List Level) (domains : List Domain) (name : List ℕ) (tries set items : ℕ)
-    → IsSound (at_levels draft (level_of at group ∷ outer))
+    → IsSound (in_domain draft at group outer)
     → Begins draft.kinds draft.domains (Some (record { 0 = at })) name tries set
     → suc (suc (length outer)) ≤ 16
     → Grown at draft.domains domains → length domains ≡ length draft.domains
@@ -81,36 +81,34 @@ sound_begun draft at group other outer domains name tries set items is begins de
     let entry_sums : sum_by entries_in more ≡ sum_by entries_in domains + 0 = sum_by_push entries_in domains new in
     record {
       staged = (omega arith, omega arith);
-      ends = is.ends;
-      deep = deeper_by is.deep (length draft.domains) (suc (suc (length outer)));
-      walk = walk_grown is.ends is.deep at group other outer draft.domains more new (grown_by_one at draft.domains domains new grown same) pushed refl
-          is.walk fits named deep;
+      heads = is.heads;
+      tree = record {
+        ends = is.tree.ends;
+        deep = put_at is.tree.deep (length draft.domains) (suc (suc (length outer)));
+        walk = walk_grown is.tree.ends is.tree.deep at group other outer draft.domains more new (grown_by_one at draft.domains domains new grown same) pushed refl
+            is.tree.walk fits named deep;
+        siblings = siblings_pushed domains new (siblings_kept at draft.domains domains grown same is.tree.siblings)
+            (alone_in at draft.domains domains grown same (Some (record { 0 = at })) name begins.alone);
+        few = omega arith;
+        deep_levels = deep;
+        all_items = omega arith;
+        few_items = few_items;
+        all_preserves = omega arith;
+        few_preserves = is.tree.few_preserves;
+      };
       each = each_pushed draft.kinds more 0 (length domains) domains new each (omega arith)
           (fits_new draft.kinds draft.domains more (Some (record { 0 = at })) name tries set (length domains) begins);
-      siblings = siblings_pushed domains new (siblings_kept at draft.domains domains grown same is.siblings)
-          (alone_in at draft.domains domains grown same (Some (record { 0 = at })) name begins.alone);
-      kinds = is.kinds;
-      few_kinds = is.few_kinds;
-      few = omega arith;
-      deep_levels = deep;
-      items = omega arith;
-      few_items = few_items;
-      preserves = omega arith;
-      few_preserves = is.few_preserves;
-      regions = is.regions;
-      few_regions = is.few_regions;
-      words = is.words;
       few_faults = is.few_faults;
     }
 
 -- a domain begins in the body of one that is open
 pub domain_in_body_is_sound : (draft : DraftModel) (at : ℕ) (outer : List Level) (name : List ℕ) (tries set : ℕ)
-    → IsSound (at_levels draft (level_of at None ∷ outer))
+    → IsSound (in_domain draft at None outer)
     → Begins draft.kinds draft.domains (Some (record { 0 = at })) name tries set
     → suc (suc (length outer)) ≤ 16 → draft.items < 16384
-    → IsSound (add_domain (domain_named name (Some (record { 0 = at })) tries set) (at_levels draft (level_of at None ∷ outer)))
+    → IsSound (add_domain (domain_named name (Some (record { 0 = at })) tries set) (in_domain draft at None outer))
 domain_in_body_is_sound draft at outer name tries set is begins deep room =
-    let mine : IsLevel is.deep draft.domains (level_of at None) outer = is.walk.each.0 in
+    let mine : IsLevel is.tree.deep draft.domains (level_of at None) outer = is.tree.walk.each.0 in
     let id : NodeId = record { 0 = length draft.domains } in
     let new : Domain = domain_named name (Some (record { 0 = at })) tries set in
     let domains : List Domain = changed at (with_item (Group (id ∷ []))) draft.domains in
@@ -123,7 +121,7 @@ domain_in_body_is_sound draft at outer name tries set is begins deep room =
     subst (λ (k : ℕ). slice_get more k ≡ Some new) same (push_new domains new) in
     let child : NamesChildren more at (id ∷ []) = (within, some_and (slice_get more (length draft.domains)) at new there refl, tt) in
     let sums : sum_by items_in domains ≡ sum_by items_in draft.domains + 1 = items_more at (Group (id ∷ [])) draft.domains mine.domain mine.there in
-    let items : sum_by items_in draft.domains + (0 + open_groups outer) ≡ draft.items = is.items in
+    let items : sum_by items_in draft.domains + (0 + open_groups outer) ≡ draft.items = is.tree.all_items in
     let old : ids_in (slice_get more at) ≡ ids_in (slice_get domains at) = ap ids_in (push_old domains new at (omega arith)) in
     let named : ids_in (slice_get domains at) ≡ ids_in (slice_get draft.domains at) ++ id ∷ [] =
     named_more at (Group (id ∷ [])) draft.domains mine.domain mine.there in
@@ -132,16 +130,16 @@ domain_in_body_is_sound draft at outer name tries set is begins deep room =
     ∙ ap (λ (ids : List NodeId). ids ++ id ∷ []) (sym (append-nil (ids_in (slice_get draft.domains at)))))
     (each_item draft.kinds at (Group (id ∷ [])) draft.domains more whole is.each (omega arith, omega arith, child, tt))
     (omega arith) (omega arith)
-    (entries_same at (Group (id ∷ [])) draft.domains mine.domain mine.there ∙ is.preserves)
+    (entries_same at (Group (id ∷ [])) draft.domains mine.domain mine.there ∙ is.tree.all_preserves)
 
 -- a domain begins in the group that is open in another
 pub domain_in_group_is_sound : (draft : DraftModel) (at : ℕ) (members : List NodeId) (outer : List Level) (name : List ℕ) (tries set : ℕ)
-    → IsSound (at_levels draft (level_of at (Some members) ∷ outer))
+    → IsSound (in_domain draft at (Some members) outer)
     → Begins draft.kinds draft.domains (Some (record { 0 = at })) name tries set
     → suc (suc (length outer)) ≤ 16 → length members < 256
-    → IsSound (add_domain (domain_named name (Some (record { 0 = at })) tries set) (at_levels draft (level_of at (Some members) ∷ outer)))
+    → IsSound (add_domain (domain_named name (Some (record { 0 = at })) tries set) (in_domain draft at (Some members) outer))
 domain_in_group_is_sound draft at members outer name tries set is begins deep room =
-    let mine : IsLevel is.deep draft.domains (level_of at (Some members)) outer = is.walk.each.0 in
+    let mine : IsLevel is.tree.deep draft.domains (level_of at (Some members)) outer = is.tree.walk.each.0 in
     let id : NodeId = record { 0 = length draft.domains } in
     let new : Domain = domain_named name (Some (record { 0 = at })) tries set in
     let more : List Domain = draft.domains ++ new ∷ [] in
@@ -157,7 +155,7 @@ domain_in_group_is_sound draft at members outer name tries set is begins deep ro
     (names_append more at members (id ∷ []) (children_kept at draft.domains more whole at members fits.0) child, omega arith)
     (ap (λ (ids : List NodeId). ids ++ (members ++ id ∷ [])) old ∙ sym (append_assoc (ids_in (slice_get draft.domains at)) members (id ∷ [])))
     (each_kept draft.kinds at draft.domains more whole 0 draft.domains is.each)
-    is.items is.few_items is.preserves
+    is.tree.all_items is.tree.few_items is.tree.all_preserves
 
 -- the root begins
 root_begun : (draft : DraftModel) (name : List ℕ) (tries set : ℕ) → IsSound (record draft { domains = []; levels = [] })
@@ -165,26 +163,24 @@ root_begun : (draft : DraftModel) (name : List ℕ) (tries set : ℕ) → IsSoun
     → IsSound (add_domain (domain_named name None tries set) (record draft { domains = []; levels = [] }))
 root_begun draft name tries set is begins =
     let new : Domain = domain_named name None tries set in
-    let items : 0 + 0 ≡ draft.items = is.items in
-    let preserves : 0 ≡ draft.preserves = is.preserves in
+    let items : 0 + 0 ≡ draft.items = is.tree.all_items in
+    let preserves : 0 ≡ draft.preserves = is.tree.all_preserves in
     record {
       staged = (omega arith, omega arith);
-      ends = λ _. 1;
-      deep = λ _. 1;
-      walk = walk_begun new refl refl;
+      heads = is.heads;
+      tree = record {
+        ends = λ _. 1;
+        deep = λ _. 1;
+        walk = walk_begun new refl refl;
+        siblings = siblings_pushed [] new is.tree.siblings begins.alone;
+        few = omega arith;
+        deep_levels = omega arith;
+        all_items = is.tree.all_items;
+        few_items = is.tree.few_items;
+        all_preserves = is.tree.all_preserves;
+        few_preserves = is.tree.few_preserves;
+      };
       each = (fits_new draft.kinds [] (new ∷ []) None name tries set 0 begins, tt);
-      siblings = siblings_pushed [] new is.siblings begins.alone;
-      kinds = is.kinds;
-      few_kinds = is.few_kinds;
-      few = omega arith;
-      deep_levels = omega arith;
-      items = is.items;
-      few_items = is.few_items;
-      preserves = is.preserves;
-      few_preserves = is.few_preserves;
-      regions = is.regions;
-      few_regions = is.few_regions;
-      words = is.words;
       few_faults = is.few_faults;
     }
 
@@ -202,30 +198,28 @@ staged_behind : (domains : List Domain) (outer : List Level) → 0 < length doma
 staged_behind domains [] some = (some, refl)
 staged_behind domains (level ∷ outer) some = (some, omega arith)
 
-pub ended_is_sound : (draft : DraftModel) (at : ℕ) (outer : List Level) → IsSound (at_levels draft (level_of at None ∷ outer))
-    → IsSound (close_domain outer (at_levels draft (level_of at None ∷ outer)))
+pub ended_is_sound : (draft : DraftModel) (at : ℕ) (outer : List Level) → IsSound (in_domain draft at None outer)
+    → IsSound (close_domain outer (in_domain draft at None outer))
 ended_is_sound draft at outer is =
-    let mine : IsLevel is.deep draft.domains (level_of at None) outer = is.walk.each.0 in
+    let mine : IsLevel is.tree.deep draft.domains (level_of at None) outer = is.tree.walk.each.0 in
     let within : at < length draft.domains = slice_get_within draft.domains at mine.domain mine.there in
-    let items : sum_by items_in draft.domains + (0 + open_groups outer) ≡ draft.items = is.items in
-    let deep : suc (length outer) ≤ 16 = is.deep_levels in
+    let items : sum_by items_in draft.domains + (0 + open_groups outer) ≡ draft.items = is.tree.all_items in
+    let deep : suc (length outer) ≤ 16 = is.tree.deep_levels in
     record {
       staged = staged_behind draft.domains outer (omega arith);
-      ends = ends_by is.ends at (length draft.domains);
-      deep = is.deep;
-      walk = walk_ended is.ends is.deep draft.kinds at outer draft.domains is.each is.walk;
+      heads = is.heads;
+      tree = record {
+        ends = put_at is.tree.ends at (length draft.domains);
+        deep = is.tree.deep;
+        walk = walk_ended is.tree.ends is.tree.deep draft.kinds at outer draft.domains is.each is.tree.walk;
+        siblings = is.tree.siblings;
+        few = is.tree.few;
+        deep_levels = omega arith;
+        all_items = omega arith;
+        few_items = is.tree.few_items;
+        all_preserves = is.tree.all_preserves;
+        few_preserves = is.tree.few_preserves;
+      };
       each = is.each;
-      siblings = is.siblings;
-      kinds = is.kinds;
-      few_kinds = is.few_kinds;
-      few = is.few;
-      deep_levels = omega arith;
-      items = omega arith;
-      few_items = is.few_items;
-      preserves = is.preserves;
-      few_preserves = is.few_preserves;
-      regions = is.regions;
-      few_regions = is.few_regions;
-      words = is.words;
       few_faults = is.few_faults;
     }

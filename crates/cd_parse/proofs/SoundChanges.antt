@@ -17,22 +17,24 @@ use Rattle.cd_parse.specs.declared.draft.Stage.TheVariants.{Start, Kinds, Region
 use Rattle.cd_parse.specs.declared.draft.Level.{Level}
 use Rattle.cd_parse.specs.Draft.{DraftModel, no_draft, changed, with_item, with_entry, add_item, add_entry, level_of, open_group, close_group}
 use Rattle.cd_parse.specs.Sound.{one_group, open_groups, ids_of, ids_in, members_in, named_by, FitsGroup, Tiles, IsLevel, IsStaged, IsSound}
+use Rattle.cd_parse.proofs.Stages.{in_root}
 use Rattle.cd_parse.proofs.SoundLists.{Grown, grown_by_change, grown_not, push_length, changed_length, changed_here, ids_append}
 use Rattle.cd_parse.proofs.SoundSteps.{children_kept, walk_changed}
-use Rattle.cd_parse.proofs.SoundDomains.{items_append, each_kept, each_changed, siblings_kept, sum_changed}
+use Rattle.cd_parse.proofs.SoundDomains.{refitted, items_append, each_kept, each_changed, siblings_kept, sum_changed}
 
+-- the draft with these domains open
 abbrev pub at_levels : DraftModel → List Level → DraftModel
 at_levels draft levels = record draft { levels = levels }
+
+-- the draft where domain `at` is open innermost, with this group
+abbrev pub in_domain : DraftModel → ℕ → Option (List NodeId) → List Level → DraftModel
+in_domain draft at group outer = at_levels draft (level_of at group ∷ outer)
 
 -- a domain that is open is in the root
 pub staged_inside : (stage : Stage) (domains more : List Domain) (level other : Level) (outer others : List Level)
     → IsStaged stage domains (level ∷ outer) → 0 < length more → IsStaged stage more (other ∷ others)
-staged_inside Start domains more level other outer others (none, closed) some = absurd (cc)
-staged_inside Kinds domains more level other outer others (none, closed) some = absurd (cc)
-staged_inside Regions domains more level other outer others (none, closed) some = absurd (cc)
-staged_inside Root domains more level other outer others (there, inside) some = (some, omega arith)
-staged_inside Closed domains more level other outer others (there, closed) some = absurd (cc)
-staged_inside Strikes domains more level other outer others (there, closed) some = absurd (cc)
+staged_inside stage domains more level other outer others staged some =
+    in_root (λ s. IsStaged s more (other ∷ others)) (some, omega arith) stage domains level outer staged
 
 -- ---- before the first statement
 
@@ -40,55 +42,34 @@ pub no_draft_is_sound : IsSound no_draft
 no_draft_is_sound =
     record {
       staged = (refl, refl);
-      ends = λ _. 0;
-      deep = λ _. 1;
-      walk = record {
-        walked = λ some. refl;
-        shut = λ at domain is. absurd (cc);
-        deeper = λ at domain is. absurd (cc);
-        depth = λ at. (omega arith, omega arith);
-        root = λ domain is. absurd (cc);
-        each = tt;
+      heads = record { kinds_differ = λ i j one other is. absurd (cc); few_kinds = omega arith; some_words = All-nil (λ (region : Region). 0 < region.length); few_regions = omega arith; few_words = omega arith };
+      tree = record {
+        ends = λ _. 0;
+        deep = λ _. 1;
+        walk = record {
+          walked = λ some. refl;
+          shut = λ at domain is. absurd (cc);
+          deeper = λ at domain is. absurd (cc);
+          depth = λ at. (omega arith, omega arith);
+          root = λ domain is. absurd (cc);
+          each = tt;
+        };
+        siblings = λ i j one other is. absurd (cc);
+        few = omega arith;
+        deep_levels = omega arith;
+        all_items = refl;
+        few_items = omega arith;
+        all_preserves = refl;
+        few_preserves = omega arith;
       };
       each = tt;
-      siblings = λ i j one other is. absurd (cc);
-      kinds = λ i j one other is. absurd (cc);
-      few_kinds = omega arith;
-      few = omega arith;
-      deep_levels = omega arith;
-      items = refl;
-      few_items = omega arith;
-      preserves = refl;
-      few_preserves = omega arith;
-      regions = All-nil (λ (region : Region). 0 < region.length);
-      few_regions = omega arith;
-      words = omega arith;
       few_faults = omega arith;
     }
 
 -- a statement or a turn more
 pub counted_is_sound : (draft : DraftModel) (lines : ℕ) → IsSound draft → IsSound (record draft { lines = lines })
 counted_is_sound draft lines is =
-    record {
-      staged = is.staged;
-      ends = is.ends;
-      deep = is.deep;
-      walk = is.walk;
-      each = is.each;
-      siblings = is.siblings;
-      kinds = is.kinds;
-      few_kinds = is.few_kinds;
-      few = is.few;
-      deep_levels = is.deep_levels;
-      items = is.items;
-      few_items = is.few_items;
-      preserves = is.preserves;
-      few_preserves = is.few_preserves;
-      regions = is.regions;
-      few_regions = is.few_regions;
-      words = is.words;
-      few_faults = is.few_faults;
-    }
+    record { staged = is.staged; heads = is.heads; tree = is.tree; each = is.each; few_faults = is.few_faults }
 
 -- ---- the innermost domain changes
 
@@ -100,7 +81,7 @@ entries_in domain = length domain.entries
 
 -- what a change of the innermost domain keeps, where it names no other domain
 pub sound_inside : (draft : DraftModel) (at : ℕ) (group other : Option (List NodeId)) (outer : List Level) (more : List Domain) (items preserves : ℕ)
-    → IsSound (at_levels draft (level_of at group ∷ outer))
+    → IsSound (in_domain draft at group outer)
     → Grown at draft.domains more → length more ≡ length draft.domains → FitsGroup draft.domains at other
     → named_by more (level_of at other) ≡ named_by draft.domains (level_of at group)
     → EachFits draft.kinds more 0 more
@@ -109,27 +90,25 @@ pub sound_inside : (draft : DraftModel) (at : ℕ) (group other : Option (List N
     → IsSound (record draft { domains = more; levels = level_of at other ∷ outer; items = items; preserves = preserves })
 sound_inside draft at group other outer more items preserves is grown same fits named each items_are few_items preserves_are few_preserves =
     let within : at < length draft.domains = slice_get_within draft.domains at grown.before grown.was in
-    let few : length draft.domains ≤ 2048 = is.few in
-    let deep_levels : suc (length outer) ≤ 16 = is.deep_levels in
+    let few : length draft.domains ≤ 2048 = is.tree.few in
+    let deep_levels : suc (length outer) ≤ 16 = is.tree.deep_levels in
     record {
       staged = staged_inside draft.stage draft.domains more (level_of at group) (level_of at other) outer outer is.staged (omega arith);
-      ends = is.ends;
-      deep = is.deep;
-      walk = walk_changed is.ends is.deep at group other outer draft.domains more grown same is.walk fits
-          (subst (λ (ids : List NodeId). Tiles is.ends (suc at) ids (length draft.domains)) (sym named) is.walk.walked.0);
+      heads = is.heads;
+      tree = record {
+        ends = is.tree.ends;
+        deep = is.tree.deep;
+        walk = walk_changed is.tree.ends is.tree.deep at group other outer draft.domains more grown same is.tree.walk fits
+            (subst (λ (ids : List NodeId). Tiles is.tree.ends (suc at) ids (length draft.domains)) (sym named) is.tree.walk.walked.0);
+        siblings = siblings_kept at draft.domains more grown same is.tree.siblings;
+        few = omega arith;
+        deep_levels = deep_levels;
+        all_items = items_are;
+        few_items = few_items;
+        all_preserves = preserves_are;
+        few_preserves = few_preserves;
+      };
       each = each;
-      siblings = siblings_kept at draft.domains more grown same is.siblings;
-      kinds = is.kinds;
-      few_kinds = is.few_kinds;
-      few = omega arith;
-      deep_levels = deep_levels;
-      items = items_are;
-      few_items = few_items;
-      preserves = preserves_are;
-      few_preserves = few_preserves;
-      regions = is.regions;
-      few_regions = is.few_regions;
-      words = is.words;
       few_faults = is.few_faults;
     }
 
@@ -146,15 +125,8 @@ named_more at item domains domain is =
 fits_item : (kinds : List KindName) (all : List Domain) (at : ℕ) (item : Item) (domain : Domain) → FitsItems all at (item ∷ [])
     → FitsDomain kinds all at domain → FitsDomain kinds all at (with_item item domain)
 fits_item kinds all at item domain fits is =
-    record {
-      name = is.name;
-      tries = is.tries;
-      retry = is.retry;
-      detects = is.detects;
-      entries = is.entries;
-      ranges = is.ranges;
-      items = items_append all at domain.items (item ∷ []) is.items fits;
-    }
+    refitted kinds all all at domain domain.entries (domain.items ++ item ∷ []) is is.entries is.ranges
+    (items_append all at domain.items (item ∷ []) is.items fits)
 
 pub items_more : (at : ℕ) (item : Item) (domains : List Domain) (domain : Domain) → slice_get domains at ≡ Some domain
     → sum_by items_in (changed at (with_item item) domains) ≡ sum_by items_in domains + 1
@@ -180,43 +152,43 @@ each_item kinds at item domains all grown each fits =
     (λ domain is here. fits_item kinds all at item domain fits here)
 
 -- an operation more in the innermost domain
-pub op_is_sound : (draft : DraftModel) (at : ℕ) (outer : List Level) (op : Op) → IsSound (at_levels draft (level_of at None ∷ outer))
+pub op_is_sound : (draft : DraftModel) (at : ℕ) (outer : List Level) (op : Op) → IsSound (in_domain draft at None outer)
     → All IsFull (op_writes op ∷ op_reads op) → FitsShape op → draft.items < 16384
-    → IsSound (add_item at (Run op) (at_levels draft (level_of at None ∷ outer)))
+    → IsSound (add_item at (Run op) (in_domain draft at None outer))
 op_is_sound draft at outer op is full shape room =
     let domains : List Domain = draft.domains in
-    let mine : IsLevel is.deep draft.domains (level_of at None) outer = is.walk.each.0 in
+    let mine : IsLevel is.tree.deep draft.domains (level_of at None) outer = is.tree.walk.each.0 in
     let more : List Domain = changed at (with_item (Run op)) draft.domains in
     let grown : Grown at draft.domains more = grown_item at (Run op) draft.domains mine.domain mine.there in
     let sums : sum_by items_in more ≡ sum_by items_in draft.domains + 1 = items_more at (Run op) draft.domains mine.domain mine.there in
-    let items : sum_by items_in draft.domains + (0 + open_groups outer) ≡ draft.items = is.items in
+    let items : sum_by items_in draft.domains + (0 + open_groups outer) ≡ draft.items = is.tree.all_items in
     let named : ids_in (slice_get more at) ≡ ids_in (slice_get draft.domains at) ++ [] = named_more at (Run op) draft.domains mine.domain mine.there in
     sound_inside draft at None None outer more (draft.items + 1) draft.preserves is grown (changed_length at (with_item (Run op)) draft.domains) tt
     (append-nil (ids_in (slice_get more at)) ∙ named)
     (each_item draft.kinds at (Run op) draft.domains more grown is.each (full, shape, tt))
     (omega arith) (omega arith)
-    (entries_same at (Run op) draft.domains mine.domain mine.there ∙ is.preserves) is.few_preserves
+    (entries_same at (Run op) draft.domains mine.domain mine.there ∙ is.tree.all_preserves) is.tree.few_preserves
 
 -- ---- a group opens and closes
 
-pub group_is_sound : (draft : DraftModel) (at : ℕ) (outer : List Level) → IsSound (at_levels draft (level_of at None ∷ outer))
-    → draft.items < 16384 → IsSound (open_group (level_of at None ∷ outer) (at_levels draft (level_of at None ∷ outer)))
+pub group_is_sound : (draft : DraftModel) (at : ℕ) (outer : List Level) → IsSound (in_domain draft at None outer)
+    → draft.items < 16384 → IsSound (open_group (level_of at None ∷ outer) (in_domain draft at None outer))
 group_is_sound draft at outer is room =
-    let mine : IsLevel is.deep draft.domains (level_of at None) outer = is.walk.each.0 in
-    let items : sum_by items_in draft.domains + (0 + open_groups outer) ≡ draft.items = is.items in
+    let mine : IsLevel is.tree.deep draft.domains (level_of at None) outer = is.tree.walk.each.0 in
+    let items : sum_by items_in draft.domains + (0 + open_groups outer) ≡ draft.items = is.tree.all_items in
     sound_inside draft at None (Some []) outer draft.domains (draft.items + 1) draft.preserves is
     (grown_not at draft.domains mine.domain mine.there) refl (tt, omega arith) refl is.each
-    (omega arith) (omega arith) is.preserves is.few_preserves
+    (omega arith) (omega arith) is.tree.all_preserves is.tree.few_preserves
 
 pub closed_group_is_sound : (draft : DraftModel) (at : ℕ) (members : List NodeId) (outer : List Level)
-    → IsSound (at_levels draft (level_of at (Some members) ∷ outer)) → 0 < length members
-    → IsSound (close_group at members outer (at_levels draft (level_of at (Some members) ∷ outer)))
+    → IsSound (in_domain draft at (Some members) outer) → 0 < length members
+    → IsSound (close_group at members outer (in_domain draft at (Some members) outer))
 closed_group_is_sound draft at members outer is some =
-    let mine : IsLevel is.deep draft.domains (level_of at (Some members)) outer = is.walk.each.0 in
+    let mine : IsLevel is.tree.deep draft.domains (level_of at (Some members)) outer = is.tree.walk.each.0 in
     let more : List Domain = changed at (with_item (Group members)) draft.domains in
     let grown : Grown at draft.domains more = grown_item at (Group members) draft.domains mine.domain mine.there in
     let sums : sum_by items_in more ≡ sum_by items_in draft.domains + 1 = items_more at (Group members) draft.domains mine.domain mine.there in
-    let items : sum_by items_in draft.domains + (1 + open_groups outer) ≡ draft.items = is.items in
+    let items : sum_by items_in draft.domains + (1 + open_groups outer) ≡ draft.items = is.tree.all_items in
     let named : ids_in (slice_get more at) ≡ ids_in (slice_get draft.domains at) ++ (members ++ []) =
     named_more at (Group members) draft.domains mine.domain mine.there in
     let fits : FitsGroup draft.domains at (Some members) = mine.group in
@@ -225,8 +197,8 @@ closed_group_is_sound draft at members outer is some =
     (append-nil (ids_in (slice_get more at)) ∙ named ∙ ap (λ (ids : List NodeId). ids_in (slice_get draft.domains at) ++ ids) (append-nil members))
     (each_item draft.kinds at (Group members) draft.domains more grown is.each
     (some, fits.1, children_kept at draft.domains more grown at members fits.0, tt))
-    (omega arith) is.few_items
-    (entries_same at (Group members) draft.domains mine.domain mine.there ∙ is.preserves) is.few_preserves
+    (omega arith) is.tree.few_items
+    (entries_same at (Group members) draft.domains mine.domain mine.there ∙ is.tree.all_preserves) is.tree.few_preserves
 
 -- ---- an entry more
 
@@ -234,23 +206,16 @@ fits_entry : (kinds : List KindName) (all : List Domain) (at : ℕ) (entry : Ent
     → length domain.entries < 64 → FitsDomain kinds all at domain → FitsDomain kinds all at (with_entry entry domain)
 fits_entry kinds all at entry domain full room is =
     let size : length (domain.entries ++ entry ∷ []) ≡ suc (length domain.entries) = push_length domain.entries entry in
-    record {
-      name = is.name;
-      tries = is.tries;
-      retry = is.retry;
-      detects = is.detects;
-      entries = omega arith;
-      ranges = All-append (λ (e : Entry). IsFull e.range) domain.entries (entry ∷ []) is.ranges
-          (All-cons (λ (e : Entry). IsFull e.range) entry [] full (All-nil (λ (e : Entry). IsFull e.range)));
-      items = is.items;
-    }
+    refitted kinds all all at domain (domain.entries ++ entry ∷ []) domain.items is (omega arith)
+    (All-append (λ (e : Entry). IsFull e.range) domain.entries (entry ∷ []) is.ranges
+    (All-cons (λ (e : Entry). IsFull e.range) entry [] full (All-nil (λ (e : Entry). IsFull e.range)))) is.items
 
 pub entry_is_sound : (draft : DraftModel) (at : ℕ) (group : Option (List NodeId)) (outer : List Level) (entry : Entry)
-    → IsSound (at_levels draft (level_of at group ∷ outer)) → IsFull entry.range
+    → IsSound (in_domain draft at group outer) → IsFull entry.range
     → ((domain : Domain) → slice_get draft.domains at ≡ Some domain → length domain.entries < 64) → draft.preserves < 16384
-    → IsSound (add_entry at entry (at_levels draft (level_of at group ∷ outer)))
+    → IsSound (add_entry at entry (in_domain draft at group outer))
 entry_is_sound draft at group outer entry is full few room =
-    let mine : IsLevel is.deep draft.domains (level_of at group) outer = is.walk.each.0 in
+    let mine : IsLevel is.tree.deep draft.domains (level_of at group) outer = is.tree.walk.each.0 in
     let more : List Domain = changed at (with_entry entry) draft.domains in
     let grown : Grown at draft.domains more = grown_by_change at (with_entry entry) draft.domains mine.domain (λ d. (refl, refl)) mine.there in
     let size : length (mine.domain.entries ++ entry ∷ []) ≡ suc (length mine.domain.entries) = push_length mine.domain.entries entry in
@@ -258,12 +223,12 @@ entry_is_sound draft at group outer entry is full few room =
     sum_changed entries_in at (with_entry entry) draft.domains mine.domain 1 mine.there (omega arith) in
     let same : sum_by items_in more ≡ sum_by items_in draft.domains + 0 =
     sum_changed items_in at (with_entry entry) draft.domains mine.domain 0 mine.there (omega arith) in
-    let items : sum_by items_in draft.domains + (one_group group + open_groups outer) ≡ draft.items = is.items in
-    let preserves : sum_by entries_in draft.domains ≡ draft.preserves = is.preserves in
+    let items : sum_by items_in draft.domains + (one_group group + open_groups outer) ≡ draft.items = is.tree.all_items in
+    let preserves : sum_by entries_in draft.domains ≡ draft.preserves = is.tree.all_preserves in
     let named : ids_in (slice_get more at) ≡ ids_in (slice_get draft.domains at) =
     ap ids_in (changed_here at (with_entry entry) draft.domains mine.domain mine.there) ∙ sym (ap ids_in mine.there) in
     sound_inside draft at group group outer more draft.items (draft.preserves + 1) is grown (changed_length at (with_entry entry) draft.domains) mine.group
     (ap (λ (ids : List NodeId). ids ++ members_in group) named)
     (each_changed draft.kinds more (with_entry entry) 0 at at draft.domains (each_kept draft.kinds at draft.domains more grown 0 draft.domains is.each) (omega arith)
     (λ domain there here. fits_entry draft.kinds more at entry domain full (few domain there) here))
-    (omega arith) is.few_items (omega arith) (omega arith)
+    (omega arith) is.tree.few_items (omega arith) (omega arith)

@@ -1,5 +1,5 @@
 -- Each domain of a draft fits, siblings differ and sums are right, when one domain is changed or one is added.
-use Rattle.std.proofs.Common.{◌≡◌, ℕ, zero, suc, ◌+◌, ◌<◌, ◌&&◌, Bool, true, false, List, [], ◌∷◌, ◌++◌, Option, None, Some, length, slice_get, sum_by, refl, ap, sym, ◌∙◌, subst, arith, inl, inr, eq-eqb}
+use Rattle.std.proofs.Common.{◌≡◌, ℕ, zero, suc, ◌+◌, ◌<◌, ◌≤◌, All, ◌&&◌, Bool, true, false, List, [], ◌∷◌, ◌++◌, Option, None, Some, length, slice_get, sum_by, refl, ap, sym, ◌∙◌, subst, arith, inl, inr, eq-eqb}
 use Rattle.std.specs.List.{list_any}
 use Rattle.std.specs.Str.{bytes_eq}
 use Rattle.std.proofs.lemmas.Bool.{or_parts, and_from, both_ways}
@@ -7,10 +7,13 @@ use Rattle.std.proofs.lemmas.Option.{slice_get_within}
 use Rattle.std.proofs.lemmas.List.Sums.{sum_by-cons}
 use Rattle.std.proofs.lemmas.Slice.Eq.{bytes_eq-Decides}
 use Rattle.cd_tree.specs.declared.domain.NodeId.{NodeId}
+use Rattle.cd_tree.specs.Limits.{entries_limit}
+use Rattle.cd_tree.specs.declared.domain.Entry.{Entry}
 use Rattle.cd_tree.specs.declared.domain.Item.{Item}
 use Rattle.cd_tree.specs.declared.domain.Item.TheVariants.{Run, Group}
 use Rattle.cd_tree.specs.declared.domain.Domain.{Domain}
 use Rattle.cd_tree.specs.declared.kinds.KindName.{KindName}
+use Rattle.cd_tree.specs.Operations.{IsFull}
 use Rattle.cd_tree.specs.TreeModel.{FitsItems, FitsDomain, EachFits, SiblingsDiffer}
 use Rattle.cd_parse.specs.Draft.{changed, is_parent, has_child_named}
 use Rattle.cd_parse.proofs.SoundLists.{Grown, Head, head_before, push_cases}
@@ -29,18 +32,26 @@ items_kept at domains more grown k (Run op ∷ items) (full, shape, fits) = (ful
 items_kept at domains more grown k (Group ids ∷ items) (some, few, named, fits) =
     (some, few, children_kept at domains more grown k ids named, items_kept at domains more grown k items fits)
 
-pub domain_kept : (kinds : List KindName) (at : ℕ) (domains more : List Domain) → Grown at domains more → (k : ℕ) (domain : Domain)
-    → FitsDomain kinds domains k domain → FitsDomain kinds more k domain
-domain_kept kinds at domains more grown k domain fits =
+-- a domain fits with other entries and items, and among other domains
+pub refitted : (kinds : List KindName) (all more : List Domain) (at : ℕ) (domain : Domain) (entries : List Entry) (items : List Item)
+    → FitsDomain kinds all at domain → length entries ≤ entries_limit → All (λ (entry : Entry). IsFull entry.range) entries → FitsItems more at items
+    → FitsDomain kinds more at (record domain { entries = entries; items = items })
+refitted kinds all more at domain entries items fits few full fit =
     record {
       name = fits.name;
       tries = fits.tries;
       retry = fits.retry;
       detects = fits.detects;
-      entries = fits.entries;
-      ranges = fits.ranges;
-      items = items_kept at domains more grown k domain.items fits.items;
+      entries = few;
+      ranges = full;
+      items = fit;
     }
+
+pub domain_kept : (kinds : List KindName) (at : ℕ) (domains more : List Domain) → Grown at domains more → (k : ℕ) (domain : Domain)
+    → FitsDomain kinds domains k domain → FitsDomain kinds more k domain
+domain_kept kinds at domains more grown k domain fits =
+    refitted kinds domains more k domain domain.entries domain.items fits fits.entries fits.ranges
+    (items_kept at domains more grown k domain.items fits.items)
 
 pub each_kept : (kinds : List KindName) (at : ℕ) (domains more : List Domain) → Grown at domains more → (k : ℕ) (rest : List Domain)
     → EachFits kinds domains k rest → EachFits kinds more k rest

@@ -1,5 +1,5 @@
 -- Lists of domains of which one is changed, or to which one is added.
-use Rattle.std.proofs.Common.{◌≡◌, ℕ, zero, suc, ◌<◌, ◌≤◌, List, [], ◌∷◌, ◌++◌, Some, length, slice_get, refl, ap, sym, ◌∙◌, arith, inl, inr, ◌⊎◌, append_assoc}
+use Rattle.std.proofs.Common.{◌≡◌, ℕ, zero, suc, ◌+◌, ◌<◌, ◌≤◌, List, [], ◌∷◌, ◌++◌, Some, length, slice_get, refl, ap, sym, ◌∙◌, arith, inl, inr, ◌⊎◌, append_assoc}
 use Rattle.std.proofs.lemmas.Bool.{cases_eq}
 use Rattle.std.proofs.lemmas.Option.{slice_get_within}
 use Rattle.cd_tree.specs.declared.domain.NodeId.{NodeId}
@@ -77,36 +77,33 @@ pub record Head (domains : List Domain) (k : ℕ) (domain : Domain) : Type 0 whe
   pub name : other.name ≡ domain.name
   pub parent : other.parent ≡ domain.parent
 
+-- what stands at place k of one list, as another list has it that differs at `at` alone
+head_by : (at : ℕ) (from to : List Domain) (old new : Domain) → slice_get from at ≡ Some old → slice_get to at ≡ Some new → new.name ≡ old.name
+    → new.parent ≡ old.parent → (k : ℕ) (domain : Domain) → slice_get from k ≡ Some domain → ((k ≡ at → ⊥) → slice_get to k ≡ Some domain) → Head to k domain
+head_by at from to old new was is name parent k domain there away =
+    elim (cases_eq k at) [
+      | inl here ↦
+          let same : old ≡ domain = let found : slice_get from at ≡ Some domain = ap (slice_get from) (sym here) ∙ there in cc in
+          record {
+            other = new;
+            is = ap (slice_get to) here ∙ is;
+            name = name ∙ ap (λ (d : Domain). d.name) same;
+            parent = parent ∙ ap (λ (d : Domain). d.parent) same;
+          }
+      | inr other ↦ record { other = domain; is = away other; name = refl; parent = refl }
+    ]
+
 pub head_after : (at : ℕ) (domains more : List Domain) → Grown at domains more → (k : ℕ) (domain : Domain) → slice_get domains k ≡ Some domain
     → Head more k domain
 head_after at domains more grown k domain is =
-    elim (cases_eq k at) [
-      | inl here ↦
-          let same : grown.before ≡ domain = let there : slice_get domains at ≡ Some domain = ap (slice_get domains) (sym here) ∙ is in let was = grown.was in cc in
-          record {
-            other = grown.after;
-            is = ap (slice_get more) here ∙ grown.is;
-            name = grown.name ∙ ap (λ (d : Domain). d.name) same;
-            parent = grown.parent ∙ ap (λ (d : Domain). d.parent) same;
-          }
-      | inr away ↦
-          record { other = domain; is = grown.others k (slice_get_within domains k domain is) away ∙ is; name = refl; parent = refl }
-    ]
+    head_by at domains more grown.before grown.after grown.was grown.is grown.name grown.parent k domain is
+    (λ away. grown.others k (slice_get_within domains k domain is) away ∙ is)
 
 pub head_before : (at : ℕ) (domains more : List Domain) → Grown at domains more → (k : ℕ) (domain : Domain) → slice_get more k ≡ Some domain
     → k < length domains → Head domains k domain
 head_before at domains more grown k domain is within =
-    elim (cases_eq k at) [
-      | inl here ↦
-          let same : grown.after ≡ domain = let there : slice_get more at ≡ Some domain = ap (slice_get more) (sym here) ∙ is in let now = grown.is in cc in
-          record {
-            other = grown.before;
-            is = ap (slice_get domains) here ∙ grown.was;
-            name = sym grown.name ∙ ap (λ (d : Domain). d.name) same;
-            parent = sym grown.parent ∙ ap (λ (d : Domain). d.parent) same;
-          }
-      | inr away ↦ record { other = domain; is = sym (grown.others k within away) ∙ is; name = refl; parent = refl }
-    ]
+    head_by at more domains grown.after grown.before grown.is grown.was (sym grown.name) (sym grown.parent) k domain is
+    (λ away. sym (grown.others k within away) ∙ is)
 
 -- a change that keeps name and parent
 abbrev pub KeepsHead : (Domain → Domain) → Type 0
@@ -159,3 +156,16 @@ pub tiles_join : (ends : ℕ → ℕ) (low : ℕ) (ids others : List NodeId) (mi
 tiles_join ends low [] others middle high same tiles = rw same tiles
 tiles_join ends low (id ∷ ids) others middle high (here, some, tiles) more =
     (here, some, tiles_join ends (ends id.0) ids others middle high tiles more)
+
+-- ---- what holds of each
+
+-- what holds of all of a list from place `at` on holds of the one at place n
+pub each_at : {A : Type 0} (P : ℕ → List A → Type 0) (Q : ℕ → A → Type 0)
+    → ((at : ℕ) (first : A) (rest : List A) → P at (first ∷ rest) → Q at first × P (suc at) rest)
+    → (at : ℕ) (xs : List A) (k n : ℕ) (x : A) → P at xs → at + k ≡ n → slice_get xs k ≡ Some x → Q n x
+each_at P Q parts at [] k n x holds sum is = absurd (cc)
+each_at P Q parts at (first ∷ xs) zero n x holds sum is =
+    let same : first ≡ x = cc in
+    let number : at ≡ n = omega arith in
+    rw (← same, ← number) (parts at first xs holds).0
+each_at P Q parts at (first ∷ xs) (suc k) n x holds sum is = each_at P Q parts (suc at) xs k n x (parts at first xs holds).1 (omega arith) is

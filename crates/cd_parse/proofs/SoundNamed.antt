@@ -14,16 +14,19 @@ use Rattle.cd_tree.specs.Operations.{op_reads, op_writes}
 use Rattle.cd_parse.specs.declared.draft.Stage.{Stage}
 use Rattle.cd_parse.specs.declared.draft.Stage.TheVariants.{Start, Kinds, Regions, Root, Closed, Strikes}
 use Rattle.cd_parse.specs.declared.draft.Level.{Level}
-use Rattle.cd_parse.specs.Draft.{DraftModel, no_draft, is_start, takes_strikes, changed, with_item, with_entry, add_item, add_entry, add_domain, named, named_in, open_group, close_group, close_domain, stage_behind, has_region_named}
-use Rattle.cd_parse.specs.Heads.{domain_named}
-use Rattle.cd_parse.specs.Sound.{IsRangeOf, IsItemOf, IsDomainOf, IsFaultOf, RegionsDiffer, IsNamed}
-use Rattle.cd_parse.proofs.SoundLists.{push_cases, push_length}
-use Rattle.cd_parse.proofs.SoundDomains.{none_passes, bytes_same}
+use Rattle.cd_parse.specs.Draft.{DraftModel, no_draft, is_start, takes_strikes, parent_of, level_of, kind_name, four_kinds, changed, with_item, with_entry, add_item, add_entry, add_domain, named, named_in, open_group, close_group, close_domain, stage_behind}
+use Rattle.cd_parse.specs.Heads.{region_of, domain_named, entry_of}
+use Rattle.cd_parse.specs.Sound.{IsRangeOf, IsItemOf, IsDomainOf, IsFaultOf}
+use Rattle.cd_parse.proofs.Stages.{of_stage, never}
+use Rattle.cd_parse.proofs.SoundLists.{push_length}
 use Rattle.cd_parse.proofs.SoundPlaces.{range_of_more, place_of_more}
+use Rattle.cd_parse.proofs.SoundChanges.{in_domain}
+use Rattle.cd_parse.proofs.Found.{KeptByChanges}
 
 -- all that a draft names is there; before the first statement there is no strike
 pub record Named (draft : DraftModel) : Type 0 where
-  pub names : IsNamed draft.kinds draft.regions draft.domains draft.faults
+  pub in_domains : All (IsDomainOf draft.regions) draft.domains
+  pub in_faults : All (IsFaultOf draft.kinds draft.regions) draft.faults
   pub quiet : is_start draft.stage ≡ true → draft.faults ≡ []
 
 pub all_weaker : {X : Type 0} (P Q : X → Type 0) (xs : List X) → ((x : X) → P x → Q x) → All P xs → All Q xs
@@ -43,15 +46,7 @@ all_changed P (suc at) change (first ∷ domains) gives all =
 
 pub no_draft_is_named : Named no_draft
 no_draft_is_named =
-    record {
-      names = record {
-        differ = λ i j one other is. absurd (cc);
-        places = All-nil (λ (region : Region). 0 < region.length);
-        in_domains = All-nil (IsDomainOf []);
-        in_faults = All-nil (IsFaultOf [] []);
-      };
-      quiet = λ start. refl;
-    }
+    record { in_domains = All-nil (IsDomainOf []); in_faults = All-nil (IsFaultOf [] []); quiet = λ start. refl }
 
 -- ---- domains
 
@@ -70,31 +65,28 @@ pub domains_named : (draft : DraftModel) (stage : Stage) (domains : List Domain)
     → (is_start stage ≡ true → is_start draft.stage ≡ true) → All (IsDomainOf draft.regions) domains
     → Named (record draft { stage = stage; domains = domains; levels = levels; items = items; preserves = preserves })
 domains_named draft stage domains levels items preserves is start all =
-    record {
-      names = record { differ = is.names.differ; places = is.names.places; in_domains = all; in_faults = is.names.in_faults };
-      quiet = λ starts. is.quiet (start starts);
-    }
+    record { in_domains = all; in_faults = is.in_faults; quiet = λ starts. is.quiet (start starts) }
 
 pub op_named : (draft : DraftModel) (at : ℕ) (op : Op) → Named draft → All (IsRangeOf draft.regions) (op_writes op ∷ op_reads op)
     → Named (add_item at (Run op) draft)
 op_named draft at op is known =
     domains_named draft draft.stage (changed at (with_item (Run op)) draft.domains) draft.levels (draft.items + 1) draft.preserves is (λ s. s)
-    (all_changed (IsDomainOf draft.regions) at (with_item (Run op)) draft.domains (λ domain. item_of draft.regions (Run op) domain known) is.names.in_domains)
+    (all_changed (IsDomainOf draft.regions) at (with_item (Run op)) draft.domains (λ domain. item_of draft.regions (Run op) domain known) is.in_domains)
 
 pub entry_named : (draft : DraftModel) (at : ℕ) (entry : Entry) → Named draft → IsRangeOf draft.regions entry.range → Named (add_entry at entry draft)
 entry_named draft at entry is known =
     domains_named draft draft.stage (changed at (with_entry entry) draft.domains) draft.levels draft.items (draft.preserves + 1) is (λ s. s)
-    (all_changed (IsDomainOf draft.regions) at (with_entry entry) draft.domains (λ domain. entry_of_domain draft.regions entry domain known) is.names.in_domains)
+    (all_changed (IsDomainOf draft.regions) at (with_entry entry) draft.domains (λ domain. entry_of_domain draft.regions entry domain known) is.in_domains)
 
 pub group_named : (draft : DraftModel) (levels : List Level) → Named draft → Named (open_group levels draft)
 group_named draft [] is = is
 group_named draft (level ∷ outer) is =
-    domains_named draft draft.stage draft.domains (record { domain = level.domain; group = Some [] } ∷ outer) (draft.items + 1) draft.preserves is (λ s. s) is.names.in_domains
+    domains_named draft draft.stage draft.domains (record { domain = level.domain; group = Some [] } ∷ outer) (draft.items + 1) draft.preserves is (λ s. s) is.in_domains
 
 grouped : (draft : DraftModel) (at : ℕ) (members : List NodeId) → Named draft
     → All (IsDomainOf draft.regions) (changed at (with_item (Group members)) draft.domains)
 grouped draft at members is =
-    all_changed (IsDomainOf draft.regions) at (with_item (Group members)) draft.domains (λ domain. item_of draft.regions (Group members) domain tt) is.names.in_domains
+    all_changed (IsDomainOf draft.regions) at (with_item (Group members)) draft.domains (λ domain. item_of draft.regions (Group members) domain tt) is.in_domains
 
 pub closed_group_named : (draft : DraftModel) (at : ℕ) (members : List NodeId) (outer : List Level) → Named draft → Named (close_group at members outer draft)
 closed_group_named draft at members outer is =
@@ -107,7 +99,7 @@ no_start_behind (level ∷ outer) P start = absurd (cc)
 
 pub closed_domain_named : (draft : DraftModel) (outer : List Level) → Named draft → Named (close_domain outer draft)
 closed_domain_named draft outer is =
-    domains_named draft (stage_behind outer) draft.domains outer draft.items draft.preserves is (no_start_behind outer (is_start draft.stage ≡ true)) is.names.in_domains
+    domains_named draft (stage_behind outer) draft.domains outer draft.items draft.preserves is (no_start_behind outer (is_start draft.stage ≡ true)) is.in_domains
 
 named_in_parent : (draft : DraftModel) (group : Option (List NodeId)) (parent : ℕ) (outer : List Level) (id : NodeId) → Named draft
     → Named (named_in group parent outer id draft)
@@ -116,7 +108,7 @@ named_in_parent draft None parent outer id is =
     (grouped draft parent (id ∷ []) is)
 named_in_parent draft (Some members) parent outer id is =
     domains_named draft draft.stage draft.domains (record { domain = parent; group = Some (members ++ id ∷ []) } ∷ outer) draft.items draft.preserves is (λ s. s)
-    is.names.in_domains
+    is.in_domains
 
 named_by_parent : (draft : DraftModel) (levels : List Level) (id : NodeId) → Named draft → Named (named levels id draft)
 named_by_parent draft [] id is = is
@@ -129,7 +121,7 @@ begun_named draft at name parent tries kinds is =
     let fresh : IsDomainOf draft.regions new =
     record { entries = All-nil (λ (e : Entry). IsRangeOf draft.regions e.range); items = All-nil (IsItemOf draft.regions) } in
     domains_named draft Root (draft.domains ++ new ∷ []) (record { domain = at; group = None } ∷ draft.levels) draft.items draft.preserves is (λ s. absurd (cc))
-    (all_pushed (IsDomainOf draft.regions) draft.domains new is.names.in_domains fresh)
+    (all_pushed (IsDomainOf draft.regions) draft.domains new is.in_domains fresh)
 
 pub domain_named_is_named : (draft : DraftModel) (name : List ℕ) (parent : Option NodeId) (tries kinds : ℕ) → Named draft
     → Named (add_domain (domain_named name parent tries kinds) draft)
@@ -149,13 +141,9 @@ fault_of_more_kinds kinds new regions fault is =
 pub kind_named_is_named : (draft : DraftModel) (new : KindName) → Named draft → Named (record draft { kinds = draft.kinds ++ new ∷ [] })
 kind_named_is_named draft new is =
     record {
-      names = record {
-        differ = is.names.differ;
-        places = is.names.places;
-        in_domains = is.names.in_domains;
-        in_faults = all_weaker (IsFaultOf draft.kinds draft.regions) (IsFaultOf (draft.kinds ++ new ∷ []) draft.regions) draft.faults
-            (fault_of_more_kinds draft.kinds new draft.regions) is.names.in_faults;
-      };
+      in_domains = is.in_domains;
+      in_faults = all_weaker (IsFaultOf draft.kinds draft.regions) (IsFaultOf (draft.kinds ++ new ∷ []) draft.regions) draft.faults
+          (fault_of_more_kinds draft.kinds new draft.regions) is.in_faults;
       quiet = is.quiet;
     }
 
@@ -164,12 +152,8 @@ pub started_named : (draft : DraftModel) (stage : Stage) (version : ℕ) (kinds 
 started_named draft stage version kinds is start =
     let none : draft.faults ≡ [] = is.quiet start in
     record {
-      names = record {
-        differ = is.names.differ;
-        places = is.names.places;
-        in_domains = is.names.in_domains;
-        in_faults = subst (λ (faults : List RawFault). All (IsFaultOf kinds draft.regions) faults) (sym none) (All-nil (IsFaultOf kinds draft.regions));
-      };
+      in_domains = is.in_domains;
+      in_faults = subst (λ (faults : List RawFault). All (IsFaultOf kinds draft.regions) faults) (sym none) (All-nil (IsFaultOf kinds draft.regions));
       quiet = λ _. none;
     }
 
@@ -190,59 +174,51 @@ fault_of_more_regions : (kinds : List KindName) (regions : List Region) (new : R
     → IsFaultOf kinds (regions ++ new ∷ []) fault
 fault_of_more_regions kinds regions new fault is = record { kind = is.kind; place = place_of_more regions new fault.place is.place }
 
-regions_pushed : (regions : List Region) (new : Region) → RegionsDiffer regions → has_region_named regions new.name ≡ false
-    → RegionsDiffer (regions ++ new ∷ [])
-regions_pushed regions new differ none i j one other one_is other_is same =
-    let taken : (k : ℕ) (region : Region) → slice_get regions k ≡ Some region → region.name ≡ new.name → ⊥ =
-    λ k region is e. none_passes (λ (region : Region). bytes_eq region.name new.name) regions none k region is (bytes_same region.name new.name e) in
-    elim (push_cases regions new i one one_is) [
-      | inl one_old ↦ elim (push_cases regions new j other other_is) [
-        | inl other_old ↦ differ i j one other one_old other_old same
-        | inr other_new ↦ absurd (taken i one one_old (same ∙ ap (λ (k : Region). k.name) (sym other_new.1)))
-      ]
-      | inr one_new ↦ elim (push_cases regions new j other other_is) [
-        | inl other_old ↦ absurd (taken j other other_old (sym same ∙ ap (λ (k : Region). k.name) (sym one_new.1)))
-        | inr other_new ↦ one_new.0 ∙ sym other_new.0
-      ]
-    ]
-
-pub region_named_is_named : (draft : DraftModel) (new : Region) (words : ℕ) → Named draft → has_region_named draft.regions new.name ≡ false
-    → 0 < new.length → Named (record draft { stage = Regions; regions = draft.regions ++ new ∷ []; words = words })
-region_named_is_named draft new words is none some =
+pub region_named_is_named : (draft : DraftModel) (new : Region) (words : ℕ) → Named draft
+    → Named (record draft { stage = Regions; regions = draft.regions ++ new ∷ []; words = words })
+region_named_is_named draft new words is =
     let more : List Region = draft.regions ++ new ∷ [] in
     record {
-      names = record {
-        differ = regions_pushed draft.regions new is.names.differ none;
-        places = all_pushed (λ (region : Region). 0 < region.length) draft.regions new is.names.places some;
-        in_domains = all_weaker (IsDomainOf draft.regions) (IsDomainOf more) draft.domains (domain_of_more draft.regions new) is.names.in_domains;
-        in_faults = all_weaker (IsFaultOf draft.kinds draft.regions) (IsFaultOf draft.kinds more) draft.faults
-            (fault_of_more_regions draft.kinds draft.regions new) is.names.in_faults;
-      };
+      in_domains = all_weaker (IsDomainOf draft.regions) (IsDomainOf more) draft.domains (domain_of_more draft.regions new) is.in_domains;
+      in_faults = all_weaker (IsFaultOf draft.kinds draft.regions) (IsFaultOf draft.kinds more) draft.faults
+          (fault_of_more_regions draft.kinds draft.regions new) is.in_faults;
       quiet = λ start. absurd (cc);
     }
 
 -- ---- strikes
 
 pub faults_named : (draft : DraftModel) → Named draft → Named (record draft { stage = Strikes })
-faults_named draft is = record { names = is.names; quiet = λ start. absurd (cc) }
+faults_named draft is = record { in_domains = is.in_domains; in_faults = is.in_faults; quiet = λ start. absurd (cc) }
 
 no_start : (stage : Stage) (P : Type 0) → takes_strikes stage ≡ true → is_start stage ≡ true → P
-no_start Start P takes start = absurd (cc)
-no_start Kinds P takes start = absurd (cc)
-no_start Regions P takes start = absurd (cc)
-no_start Root P takes start = absurd (cc)
-no_start Closed P takes start = absurd (cc)
-no_start Strikes P takes start = absurd (cc)
+no_start stage P =
+    of_stage takes_strikes (λ s. is_start s ≡ true → P) never never never never never (λ _. never) stage
 
 pub fault_named : (draft : DraftModel) (fault : RawFault) → Named draft → takes_strikes draft.stage ≡ true → IsFaultOf draft.kinds draft.regions fault
     → Named (record draft { faults = draft.faults ++ fault ∷ [] })
 fault_named draft fault is takes one =
     record {
-      names = record {
-        differ = is.names.differ;
-        places = is.names.places;
-        in_domains = is.names.in_domains;
-        in_faults = all_pushed (IsFaultOf draft.kinds draft.regions) draft.faults fault is.names.in_faults one;
-      };
+      in_domains = is.in_domains;
+      in_faults = all_pushed (IsFaultOf draft.kinds draft.regions) draft.faults fault is.in_faults one;
       quiet = λ start. no_start draft.stage (draft.faults ++ fault ∷ [] ≡ []) takes start;
+    }
+
+-- ---- every change
+
+pub named_changes : KeptByChanges Named
+named_changes =
+    record {
+      first = λ draft _ is start. started_named draft Regions 1 four_kinds is start;
+      second = λ draft _ is start. started_named draft Kinds 2 draft.kinds is start;
+      kind = λ draft name halts _ is found. kind_named_is_named draft (kind_name name halts) is;
+      region = λ draft name size pattern _ is found. region_named_is_named draft (region_of name size pattern) (draft.words + size) is;
+      domain = λ draft name tries set _ is found. domain_named_is_named draft name (parent_of draft.levels) tries set is;
+      entry = λ draft at outer range how _ is found. entry_named (in_domain draft at None outer) at (entry_of range how) is found.there;
+      op = λ draft at outer op _ is found. op_named (in_domain draft at None outer) at op is found.there;
+      group = λ draft at outer _ is few. group_named (in_domain draft at None outer) (level_of at None ∷ outer) is;
+      group_end = λ draft at first members outer _ is.
+          closed_group_named (in_domain draft at (Some (first ∷ members)) outer) at (first ∷ members) outer is;
+      domain_end = λ draft at outer _ is. closed_domain_named (in_domain draft at None outer) outer is;
+      faults = λ draft _ is closed. faults_named draft is;
+      fault = λ draft fault _ is found. fault_named draft fault is found.stage found.there;
     }

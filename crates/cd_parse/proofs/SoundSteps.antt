@@ -11,7 +11,7 @@ use Rattle.cd_parse.specs.declared.draft.Level.{Level}
 use Rattle.cd_parse.specs.Draft.{level_of, parent_of}
 use Rattle.cd_parse.specs.Sound.{ids_of, ids_in, members_in, named_by, FitsGroup, Tiles, IsLast, IsWithin, IsWalkedTo, IsShut, IsDeeper, IsLevel, EachLevel, IsWalk}
 use Rattle.cd_parse.proofs.SoundWalk.{tiles_up, names_all, Child, child_of}
-use Rattle.cd_parse.proofs.SoundLists.{Grown, Head, head_after, head_before, tiles_join}
+use Rattle.cd_parse.proofs.SoundLists.{Grown, Head, head_after, head_before, tiles_join, each_at}
 
 -- ---- children and levels are kept
 
@@ -108,41 +108,41 @@ walk_changed ends deep at group other outer domains more grown same walk fits ti
 
 -- ---- a domain is begun
 
--- how deep domains stand where one more stands this deep
-abbrev pub deeper_by : (ℕ → ℕ) → ℕ → ℕ → ℕ → ℕ
-deeper_by deep new depth at = cond (at == new) depth (deep at)
+-- the values, but at this place this one
+abbrev pub put_at : (ℕ → ℕ) → ℕ → ℕ → ℕ → ℕ
+put_at values place value at = cond (at == place) value (values at)
 
-deeper_new : (deep : ℕ → ℕ) (new depth at : ℕ) → at ≡ new → deeper_by deep new depth at ≡ depth
-deeper_new deep new depth at same = cond-true (at == new) depth (deep at) (eq-eqb at new same)
+put_here : (values : ℕ → ℕ) (place value at : ℕ) → at ≡ place → put_at values place value at ≡ value
+put_here values place value at same = cond-true (at == place) value (values at) (eq-eqb at place same)
 
-deeper_old : (deep : ℕ → ℕ) (new depth at : ℕ) → (at ≡ new → ⊥) → deeper_by deep new depth at ≡ deep at
-deeper_old deep new depth at other = cond-false (at == new) depth (deep at) (ne_eqb at new other)
+put_away : (values : ℕ → ℕ) (place value at : ℕ) → (at ≡ place → ⊥) → put_at values place value at ≡ values at
+put_away values place value at other = cond-false (at == place) value (values at) (ne_eqb at place other)
 
 deeper_kept : (deep : ℕ → ℕ) (new depth at : ℕ) (parent : Option NodeId) → at < new → IsDeeper deep at parent
-    → IsDeeper (deeper_by deep new depth) at parent
+    → IsDeeper (put_at deep new depth) at parent
 deeper_kept deep new depth at None below is = tt
 deeper_kept deep new depth at (Some parent) below (before, is) =
-    let here : deeper_by deep new depth at ≡ deep at = deeper_old deep new depth at (λ e. absurd (omega arith)) in
-    let there : deeper_by deep new depth parent.0 ≡ deep parent.0 = deeper_old deep new depth parent.0 (λ e. absurd (omega arith)) in
+    let here : put_at deep new depth at ≡ deep at = put_away deep new depth at (λ e. absurd (omega arith)) in
+    let there : put_at deep new depth parent.0 ≡ deep parent.0 = put_away deep new depth parent.0 (λ e. absurd (omega arith)) in
     (before, here ∙ is ∙ ap suc (sym there))
 
 deeper_first : (deep : ℕ → ℕ) (new depth : ℕ) (parent : Option NodeId) (at : ℕ) → parent ≡ Some (record { 0 = at }) → at < new
-    → depth ≡ suc (deep at) → IsDeeper (deeper_by deep new depth) new parent
+    → depth ≡ suc (deep at) → IsDeeper (put_at deep new depth) new parent
 deeper_first deep new depth parent at is before sum =
-    let here : deeper_by deep new depth new ≡ depth = deeper_new deep new depth new refl in
-    let there : deeper_by deep new depth at ≡ deep at = deeper_old deep new depth at (λ e. absurd (omega arith)) in
-    let deeper : IsDeeper (deeper_by deep new depth) new (Some (record { 0 = at })) = (before, here ∙ sum ∙ ap suc (sym there)) in
-    subst (IsDeeper (deeper_by deep new depth) new) (sym is) deeper
+    let here : put_at deep new depth new ≡ depth = put_here deep new depth new refl in
+    let there : put_at deep new depth at ≡ deep at = put_away deep new depth at (λ e. absurd (omega arith)) in
+    let deeper : IsDeeper (put_at deep new depth) new (Some (record { 0 = at })) = (before, here ∙ sum ∙ ap suc (sym there)) in
+    subst (IsDeeper (put_at deep new depth) new) (sym is) deeper
 
 deeper_within : (deep : ℕ → ℕ) (new depth at : ℕ) → 0 < depth → depth ≤ 16 → (0 < deep at) × (deep at ≤ 16)
-    → (0 < deeper_by deep new depth at) × (deeper_by deep new depth at ≤ 16)
+    → (0 < put_at deep new depth at) × (put_at deep new depth at ≤ 16)
 deeper_within deep new depth at some few (above, below) =
     elim (cases_eq at new) [
       | inl same ↦
-          let is : deeper_by deep new depth at ≡ depth = deeper_new deep new depth at same in
+          let is : put_at deep new depth at ≡ depth = put_here deep new depth at same in
           (omega arith, omega arith)
       | inr other ↦
-          let is : deeper_by deep new depth at ≡ deep at = deeper_old deep new depth at other in
+          let is : put_at deep new depth at ≡ deep at = put_away deep new depth at other in
           (omega arith, omega arith)
     ]
 
@@ -178,13 +178,13 @@ pub walk_grown : (ends deep : ℕ → ℕ) (at : ℕ) (group other : Option (Lis
     → IsWalk ends deep domains (level_of at group ∷ outer) → FitsGroup more at other
     → named_by more (level_of at other) ≡ named_by domains (level_of at group) ++ record { 0 = length domains } ∷ []
     → suc (suc (length outer)) ≤ 16
-    → IsWalk ends (deeper_by deep (length domains) (suc (suc (length outer)))) more
+    → IsWalk ends (put_at deep (length domains) (suc (suc (length outer)))) more
     (level_of (length domains) None ∷ (level_of at other ∷ outer))
 walk_grown ends deep at group other outer domains more new grown pushed parent walk fits named few =
-    let new_deep : ℕ → ℕ = deeper_by deep (length domains) (suc (suc (length outer))) in
+    let new_deep : ℕ → ℕ = put_at deep (length domains) (suc (suc (length outer))) in
     let within : at < length domains = slice_get_within domains at grown.before grown.was in
     let agree : (k : ℕ) → k < length domains → new_deep k ≡ deep k =
-    λ k below. deeper_old deep (length domains) (suc (suc (length outer))) k (λ e. absurd (omega arith)) in
+    λ k below. put_away deep (length domains) (suc (suc (length outer))) k (λ e. absurd (omega arith)) in
     let each : IsLevel deep domains (level_of at group) outer = walk.each.0 in
     let now : Head more at each.domain = head_after at domains more grown at each.domain each.there in
     let depth_here : deep at ≡ suc (length outer) = each.depth in
@@ -196,7 +196,7 @@ walk_grown ends deep at group other outer domains more new grown pushed parent w
       there = pushed.is;
       parent = parent;
       group = tt;
-      depth = deeper_new deep (length domains) (suc (suc (length outer))) (length domains) refl;
+      depth = put_here deep (length domains) (suc (suc (length outer))) (length domains) refl;
     } in
     let second : IsLevel new_deep more (level_of at other) outer =
     record { domain = now.other; there = now.is; parent = now.parent ∙ each.parent; group = fits; depth = agree at within ∙ each.depth } in
@@ -251,16 +251,6 @@ walk_begun new parent items =
 
 -- ---- a domain is ended
 
--- where domains end, where this one ends here
-abbrev pub ends_by : (ℕ → ℕ) → ℕ → ℕ → ℕ → ℕ
-ends_by ends closed high at = cond (at == closed) high (ends at)
-
-ends_new : (ends : ℕ → ℕ) (closed high at : ℕ) → at ≡ closed → ends_by ends closed high at ≡ high
-ends_new ends closed high at same = cond-true (at == closed) high (ends at) (eq-eqb at closed same)
-
-ends_old : (ends : ℕ → ℕ) (closed high at : ℕ) → (at ≡ closed → ⊥) → ends_by ends closed high at ≡ ends at
-ends_old ends closed high at other = cond-false (at == closed) high (ends at) (ne_eqb at closed other)
-
 abbrev Avoids : ℕ → List NodeId → Type 0
 Avoids at [] = Unit {0}
 Avoids at (id ∷ ids) = (id.0 ≡ at → ⊥) × Avoids at ids
@@ -298,17 +288,17 @@ avoids_children domains at k domain outer (id ∷ ids) is parent shut (above, ch
     )
 
 tiles_kept : (ends : ℕ → ℕ) (closed end low : ℕ) (ids : List NodeId) (high : ℕ) → Avoids closed ids → Tiles ends low ids high
-    → Tiles (ends_by ends closed end) low ids high
+    → Tiles (put_at ends closed end) low ids high
 tiles_kept ends closed end low [] high avoids tiles = tiles
 tiles_kept ends closed end low (id ∷ ids) high (away, avoids) (here, some, tiles) =
-    let same : ends id.0 ≡ ends_by ends closed end id.0 = sym (ends_old ends closed end id.0 away) in (
+    let same : ends id.0 ≡ put_at ends closed end id.0 = sym (put_away ends closed end id.0 away) in (
       here,
       subst (λ (n : ℕ). id.0 < n) same some,
-      subst (λ (n : ℕ). Tiles (ends_by ends closed end) n ids high) same (tiles_kept ends closed end (ends id.0) ids high avoids tiles),
+      subst (λ (n : ℕ). Tiles (put_at ends closed end) n ids high) same (tiles_kept ends closed end (ends id.0) ids high avoids tiles),
     )
 
 ended_within : (ends : ℕ → ℕ) (closed end : ℕ) (domains : List Domain) (inner : ℕ) (levels : List Level)
-    → inner ≤ closed → IsWithin ends domains inner levels → IsWithin (ends_by ends closed end) domains inner levels
+    → inner ≤ closed → IsWithin ends domains inner levels → IsWithin (put_at ends closed end) domains inner levels
 ended_within ends closed end domains inner [] up is = is
 ended_within ends closed end domains inner (level ∷ outer) up (last, is) =
     let below : level.domain < inner = last.below in
@@ -323,11 +313,11 @@ ended_within ends closed end domains inner (level ∷ outer) up (last, is) =
     )
 
 ended_to : (ends : ℕ → ℕ) (at : ℕ) (domains : List Domain) (outer : List Level) → at < length domains
-    → IsWithin ends domains at outer → IsWalkedTo (ends_by ends at (length domains)) domains outer
-ended_to ends at domains [] within is = λ some. ends_new ends at (length domains) 0 (sym is)
+    → IsWithin ends domains at outer → IsWalkedTo (put_at ends at (length domains)) domains outer
+ended_to ends at domains [] within is = λ some. put_here ends at (length domains) 0 (sym is)
 ended_to ends at domains (level ∷ outer) within (last, is) =
-    let new_ends : ℕ → ℕ = ends_by ends at (length domains) in
-    let end : new_ends at ≡ length domains = ends_new ends at (length domains) at refl in
+    let new_ends : ℕ → ℕ = put_at ends at (length domains) in
+    let end : new_ends at ≡ length domains = put_here ends at (length domains) at refl in
     let avoids : Avoids at last.before = avoids_below ends (suc level.domain) last.before at at last.tiles (omega arith) in
     let first : Tiles new_ends (suc level.domain) last.before at =
     tiles_kept ends at (length domains) (suc level.domain) last.before at avoids last.tiles in
@@ -339,21 +329,12 @@ ended_to ends at domains (level ∷ outer) within (last, is) =
       ended_within ends at (length domains) domains level.domain outer (omega arith) is,
     )
 
-fits_at : (kinds : List KindName) (all : List Domain) (at : ℕ) (domains : List Domain) (k n : ℕ) (domain : Domain)
-    → EachFits kinds all at domains → at + k ≡ n → slice_get domains k ≡ Some domain → FitsDomain kinds all n domain
-fits_at kinds all at [] k n domain fits sum is = absurd (cc)
-fits_at kinds all at (first ∷ domains) zero n domain (here, fits) sum is =
-    let same : first ≡ domain = cc in
-    let number : at ≡ n = omega arith in
-    rw (← same, ← number) here
-fits_at kinds all at (first ∷ domains) (suc k) n domain (here, fits) sum is = fits_at kinds all (suc at) domains k n domain fits (omega arith) is
-
 ended_shut : (ends deep : ℕ → ℕ) (kinds : List KindName) (at : ℕ) (outer : List Level) (domains : List Domain)
     → EachFits kinds domains 0 domains → IsWalk ends deep domains (level_of at None ∷ outer)
     → (k : ℕ) (domain : Domain) → slice_get domains k ≡ Some domain → IsShut k outer
-    → Tiles (ends_by ends at (length domains)) (suc k) (ids_of domain.items) (ends_by ends at (length domains) k)
+    → Tiles (put_at ends at (length domains)) (suc k) (ids_of domain.items) (put_at ends at (length domains) k)
 ended_shut ends deep kinds at outer domains fits walk k domain is shut =
-    let new_ends : ℕ → ℕ = ends_by ends at (length domains) in
+    let new_ends : ℕ → ℕ = put_at ends at (length domains) in
     let mine : IsLevel deep domains (level_of at None) outer = walk.each.0 in
     elim (cases_eq k at) [
       | inl here ↦
@@ -363,20 +344,20 @@ ended_shut ends deep kinds at outer domains fits walk k domain is shut =
           subst (λ (n : ℕ). Tiles ends (suc n) (named_by domains (level_of n None)) (length domains)) (sym here) walk.walked.0 in
           let tiles : Tiles ends (suc k) (ids_of domain.items) (length domains) =
           subst (λ (ids : List NodeId). Tiles ends (suc k) ids (length domains)) named there in
-          subst (λ (high : ℕ). Tiles new_ends (suc k) (ids_of domain.items) high) (sym (ends_new ends at (length domains) k here))
+          subst (λ (high : ℕ). Tiles new_ends (suc k) (ids_of domain.items) high) (sym (put_here ends at (length domains) k here))
           (tiles_kept ends at (length domains) (suc k) (ids_of domain.items) (length domains)
           (avoids_above ends (suc k) (ids_of domain.items) (length domains) at tiles (omega arith)) tiles)
       | inr away ↦
-          let fit : FitsDomain kinds domains k domain = fits_at kinds domains 0 domains k k domain fits (omega arith) is in
+          let fit : FitsDomain kinds domains k domain = each_at (EachFits kinds domains) (FitsDomain kinds domains) (λ at first rest all. all) 0 domains k k domain fits (omega arith) is in
           let avoids : Avoids at (ids_of domain.items) =
           avoids_children domains at k mine.domain outer (ids_of domain.items) mine.there mine.parent shut (names_all domains k domain.items fit.items) in
-          subst (λ (high : ℕ). Tiles new_ends (suc k) (ids_of domain.items) high) (sym (ends_old ends at (length domains) k away))
+          subst (λ (high : ℕ). Tiles new_ends (suc k) (ids_of domain.items) high) (sym (put_away ends at (length domains) k away))
           (tiles_kept ends at (length domains) (suc k) (ids_of domain.items) (ends k) avoids (walk.shut k domain is (away, shut)))
     ]
 
 pub walk_ended : (ends deep : ℕ → ℕ) (kinds : List KindName) (at : ℕ) (outer : List Level) (domains : List Domain)
     → EachFits kinds domains 0 domains → IsWalk ends deep domains (level_of at None ∷ outer)
-    → IsWalk (ends_by ends at (length domains)) deep domains outer
+    → IsWalk (put_at ends at (length domains)) deep domains outer
 walk_ended ends deep kinds at outer domains fits walk =
     let mine : IsLevel deep domains (level_of at None) outer = walk.each.0 in
     record {

@@ -10,34 +10,20 @@ use Rattle.cd_tree.specs.declared.domain.Item.{Item}
 use Rattle.cd_tree.specs.declared.domain.Item.TheVariants.{Run, Group}
 use Rattle.cd_tree.specs.declared.domain.Domain.{Domain}
 use Rattle.cd_tree.specs.declared.kinds.KindName.{KindName}
-use Rattle.cd_tree.specs.declared.operation.Op.{Op}
-use Rattle.cd_tree.specs.declared.operation.Op.TheVariants.{Fill, Copy, Add, Sub, Mul, Axpy, Scan, Sum, Dot, Max, Stencil, Spmv}
 use Rattle.cd_tokens.specs.Sums.{is_base}
 use Rattle.cd_parse.specs.declared.draft.Stage.{Stage}
 use Rattle.cd_parse.specs.declared.draft.Stage.TheVariants.{Start, Kinds, Regions, Root, Closed, Strikes}
 use Rattle.cd_parse.specs.declared.draft.Level.{Level}
-use Rattle.cd_parse.specs.Draft.{DraftModel, no_draft, takes_kinds, takes_regions, is_closed, may_end, stage_behind, changed, with_item, with_entry, add_domain, named, named_in, has_kind_named, has_region_named, four_kinds}
-use Rattle.cd_parse.specs.Heads.{domain_named}
+use Rattle.cd_parse.specs.Draft.{DraftModel, no_draft, takes_kinds, takes_regions, is_closed, may_end, stage_behind, takes_domains, parent_of, level_of, changed, with_item, with_entry, add_domain, named, named_in, kind_name, has_kind_named, has_region_named, four_kinds}
+use Rattle.cd_parse.specs.Heads.{region_of, domain_named, entry_of}
 use Rattle.cd_parse.specs.Operations.{fits}
 use Rattle.cd_parse.specs.WellRead.{IsReadPattern, IsReadHow, AreReadKinds, AreReadRegions, IsReadPath, FitsVersion}
 use Rattle.cd_parse.specs.Sound.{IsStaged}
+use Rattle.cd_parse.proofs.Stages.{of_stage, never, in_root}
 use Rattle.cd_parse.proofs.SoundDomains.{bytes_same}
+use Rattle.cd_parse.proofs.SoundChanges.{in_domain}
+use Rattle.cd_parse.proofs.Found.{OpText, FaultText, KeptByChanges}
 use Rattle.cd_parse.proofs.SoundNamed.{all_pushed, all_changed}
-
--- the numbers of an operation have 64 bits
-abbrev pub OpText : Op → Type 0
-OpText (Fill d k) = k < 2 ^ 64
-OpText (Copy d x) = Unit {0}
-OpText (Add d x z) = Unit {0}
-OpText (Sub d x z) = Unit {0}
-OpText (Mul d x z) = Unit {0}
-OpText (Axpy d k x) = k < 2 ^ 64
-OpText (Scan d x) = Unit {0}
-OpText (Sum d x) = Unit {0}
-OpText (Dot d x z) = Unit {0}
-OpText (Max d x) = Unit {0}
-OpText (Stencil d a b c x) = (a < 2 ^ 64) × (b < 2 ^ 64) × (c < 2 ^ 64)
-OpText (Spmv d s c v x) = Unit {0}
 
 abbrev pub ItemText : Item → Type 0
 ItemText (Run op) = OpText op × (fits op ≡ true)
@@ -51,12 +37,6 @@ pub record DomainText (domain : Domain) : Type 0 where
   pub short : length domain.name ≤ 32
   pub entries : All EntryText domain.entries
   pub items : All ItemText domain.items
-
-pub record FaultText (fault : RawFault) : Type 0 where
-  pub path : IsReadPath fault.path
-  pub begin : fault.begin < 2 ^ 64
-  pub point : fault.item < 2 ^ 64
-  pub mask : fault.mask < 2 ^ 64
 
 -- the kinds of each version, as far as the draft has come
 abbrev pub StageFits : Stage → ℕ → List KindName → Type 0
@@ -88,39 +68,23 @@ no_draft_is_told =
 
 pub fits_regions : (stage : Stage) (version : ℕ) (kinds : List KindName) → takes_regions stage ≡ true → StageFits stage version kinds
     → FitsVersion version kinds
-fits_regions Start version kinds takes fit = absurd (cc)
-fits_regions Kinds version kinds takes fit = inr fit
-fits_regions Regions version kinds takes fit = fit
-fits_regions Root version kinds takes fit = absurd (cc)
-fits_regions Closed version kinds takes fit = absurd (cc)
-fits_regions Strikes version kinds takes fit = absurd (cc)
+fits_regions stage version kinds =
+    of_stage takes_regions (λ s. StageFits s version kinds → FitsVersion version kinds) never (λ _. inr) (λ _ fit. fit) never never never stage
 
 pub fits_inside : (stage : Stage) (version : ℕ) (kinds : List KindName) (domains : List Domain) (level : Level) (outer : List Level)
     → IsStaged stage domains (level ∷ outer) → StageFits stage version kinds → FitsVersion version kinds
-fits_inside Start version kinds domains level outer (none, closed) fit = absurd (cc)
-fits_inside Kinds version kinds domains level outer (none, closed) fit = absurd (cc)
-fits_inside Regions version kinds domains level outer (none, closed) fit = absurd (cc)
-fits_inside Root version kinds domains level outer staged fit = fit
-fits_inside Closed version kinds domains level outer (some, closed) fit = absurd (cc)
-fits_inside Strikes version kinds domains level outer (some, closed) fit = absurd (cc)
+fits_inside stage version kinds =
+    in_root (λ s. StageFits s version kinds → FitsVersion version kinds) (λ fit. fit) stage
 
 pub fits_closed : (stage : Stage) (version : ℕ) (kinds : List KindName) → is_closed stage ≡ true → StageFits stage version kinds
     → FitsVersion version kinds
-fits_closed Start version kinds closed fit = absurd (cc)
-fits_closed Kinds version kinds closed fit = absurd (cc)
-fits_closed Regions version kinds closed fit = absurd (cc)
-fits_closed Root version kinds closed fit = absurd (cc)
-fits_closed Closed version kinds closed fit = fit
-fits_closed Strikes version kinds closed fit = absurd (cc)
+fits_closed stage version kinds =
+    of_stage is_closed (λ s. StageFits s version kinds → FitsVersion version kinds) never never never never (λ _ fit. fit) never stage
 
 pub fits_end : (stage : Stage) (version : ℕ) (kinds : List KindName) → may_end stage ≡ true → StageFits stage version kinds
     → FitsVersion version kinds
-fits_end Start version kinds ends fit = absurd (cc)
-fits_end Kinds version kinds ends fit = absurd (cc)
-fits_end Regions version kinds ends fit = absurd (cc)
-fits_end Root version kinds ends fit = absurd (cc)
-fits_end Closed version kinds ends fit = fit
-fits_end Strikes version kinds ends fit = fit
+fits_end stage version kinds =
+    of_stage may_end (λ s. StageFits s version kinds → FitsVersion version kinds) never never never never (λ _ fit. fit) (λ _ fit. fit) stage
 
 pub fits_behind : (outer : List Level) (version : ℕ) (kinds : List KindName) → FitsVersion version kinds → StageFits (stage_behind outer) version kinds
 fits_behind [] version kinds fit = fit
@@ -128,12 +92,8 @@ fits_behind (level ∷ outer) version kinds fit = fit
 
 kinds_at : (stage : Stage) (version : ℕ) (kinds more : List KindName) → takes_kinds stage ≡ true → StageFits stage version kinds
     → StageFits stage version more
-kinds_at Start version kinds more takes fit = absurd (cc)
-kinds_at Kinds version kinds more takes fit = fit
-kinds_at Regions version kinds more takes fit = absurd (cc)
-kinds_at Root version kinds more takes fit = absurd (cc)
-kinds_at Closed version kinds more takes fit = absurd (cc)
-kinds_at Strikes version kinds more takes fit = absurd (cc)
+kinds_at stage version kinds more =
+    of_stage takes_kinds (λ s. StageFits s version kinds → StageFits s version more) never (λ _ fit. fit) never never never never stage
 
 -- ---- kinds and regions
 
@@ -293,11 +253,46 @@ domain_told draft name parent tries kinds told fit base short =
 
 pub fault_told : (draft : DraftModel) (fault : RawFault) → Told draft → FaultText fault → Told (record draft { faults = draft.faults ++ fault ∷ [] })
 fault_told draft fault told one =
+    let more : All FaultText (draft.faults ++ fault ∷ []) = all_pushed FaultText draft.faults fault told.faults one in
+    record { version = told.version; kinds = told.kinds; regions = told.regions; words = told.words; domains = told.domains; faults = more }
+
+-- ---- every change
+
+-- the kinds where a domain may begin
+fits_takes : (draft : DraftModel) (levels : List Level) → IsStaged draft.stage draft.domains levels → Told draft → takes_domains draft levels ≡ true
+    → FitsVersion draft.version draft.kinds
+fits_takes draft [] staged told takes = fits_regions draft.stage draft.version draft.kinds takes told.version
+fits_takes draft (level ∷ outer) staged told takes = fits_inside draft.stage draft.version draft.kinds draft.domains level outer staged told.version
+
+pub told_changes : KeptByChanges Told
+told_changes =
     record {
-      version = told.version;
-      kinds = told.kinds;
-      regions = told.regions;
-      words = told.words;
-      domains = told.domains;
-      faults = all_pushed FaultText draft.faults fault told.faults one;
+      first = λ draft _ told _. first_told draft told;
+      second = λ draft _ told _. second_told draft told;
+      kind = λ draft name halts _ told found.
+          kind_told draft (kind_name name halts) told found.stage found.base found.some found.short found.new;
+      region = λ draft name size pattern _ told found.
+          region_told draft (region_of name size pattern) told found.stage found.base found.short found.new found.some found.words found.numbers;
+      domain = λ draft name tries set sound told found.
+          domain_told draft name (parent_of draft.levels) tries set told (fits_takes draft draft.levels sound.staged told found.takes) found.base found.short;
+      entry = λ draft at outer range how _ told found.
+          domains_told (in_domain draft at None outer) draft.stage (changed at (with_entry (entry_of range how)) draft.domains) (level_of at None ∷ outer) draft.items
+          (draft.preserves + 1) told told.version (entry_told at (entry_of range how) draft.domains found.numbers told.domains);
+      op = λ draft at outer op _ told found.
+          domains_told (in_domain draft at None outer) draft.stage (changed at (with_item (Run op)) draft.domains) (level_of at None ∷ outer) (draft.items + 1)
+          draft.preserves told told.version (item_told at (Run op) draft.domains (found.numbers, found.fit) told.domains);
+      group = λ draft at outer _ told few.
+          domains_told (in_domain draft at None outer) draft.stage draft.domains (level_of at (Some []) ∷ outer) (draft.items + 1) draft.preserves told told.version
+          told.domains;
+      group_end = λ draft at first members outer _ told.
+          domains_told (in_domain draft at (Some (first ∷ members)) outer) draft.stage (changed at (with_item (Group (first ∷ members))) draft.domains)
+          (level_of at None ∷ outer) draft.items draft.preserves told told.version (item_told at (Group (first ∷ members)) draft.domains tt told.domains);
+      domain_end = λ draft at outer sound told.
+          domains_told (in_domain draft at None outer) (stage_behind outer) draft.domains outer draft.items draft.preserves told
+          (fits_behind outer draft.version draft.kinds
+          (fits_inside draft.stage draft.version draft.kinds draft.domains (level_of at None) outer sound.staged told.version)) told.domains;
+      faults = λ draft _ told closed.
+          domains_told draft Strikes draft.domains draft.levels draft.items draft.preserves told
+          (fits_closed draft.stage draft.version draft.kinds closed told.version) told.domains;
+      fault = λ draft fault _ told found. fault_told draft fault told found.text;
     }

@@ -9,6 +9,7 @@ use Rattle.cd_tree.specs.declared.kinds.KindName.{KindName}
 use Rattle.cd_tree.specs.Domains.{Node, put_first, members_by, body_by, nodes_from, root_of, node_numbers, body_numbers, member_numbers, node_depth, body_depth, members_depth, numbers_from}
 use Rattle.cd_tree.specs.TreeModel.{NamesChildren, FitsItems, EachFits}
 use Rattle.cd_parse.specs.Sound.{ids_of, Tiles, IsDeeper, IsWalk}
+use Rattle.cd_parse.proofs.SoundLists.{each_at}
 
 pub names_append : (domains : List Domain) (at : ℕ) (ids others : List NodeId) → NamesChildren domains at ids → NamesChildren domains at others
     → NamesChildren domains at (ids ++ others)
@@ -63,15 +64,6 @@ pub record Met (ends deep : ℕ → ℕ) (at : ℕ) (view : Node) : Type 0 where
 abbrev EachMet : (ℕ → ℕ) → (ℕ → ℕ) → ℕ → List Node → Type 0
 EachMet ends deep at [] = Unit {0}
 EachMet ends deep at (view ∷ views) = Met ends deep at view × EachMet ends deep (suc at) views
-
-met_at : (ends deep : ℕ → ℕ) (at : ℕ) (views : List Node) (k n : ℕ) (view : Node) → EachMet ends deep at views → at + k ≡ n
-    → slice_get views k ≡ Some view → Met ends deep n view
-met_at ends deep at [] k n view met sum is = absurd (cc)
-met_at ends deep at (first ∷ views) zero n view (here, met) sum is =
-    let same : first ≡ view = cc in
-    let number : at ≡ n = omega arith in
-    rw (← same, ← number) here
-met_at ends deep at (first ∷ views) (suc k) n view (here, met) sum is = met_at ends deep (suc at) views k n view met (omega arith) is
 
 pub record Found (views : List Node) (k : ℕ) : Type 0 where
   pub view : Node
@@ -139,7 +131,7 @@ members_walked ends deep domains at views (id ∷ ids) low high met finds deeper
     let within : id.0 < length domains = slice_get_within domains id.0 found.domain found.is in
     let there : Found views (id.0 - suc at) = finds (id.0 - suc at) (omega arith) in
     let view : Met ends deep id.0 there.view =
-    met_at ends deep (suc at) views (id.0 - suc at) id.0 there.view met (omega arith) there.is in
+    each_at (EachMet ends deep) (Met ends deep) (λ n first rest all. all) (suc at) views (id.0 - suc at) id.0 there.view met (omega arith) there.is in
     let deeper_child : IsDeeper deep id.0 (Some (record { 0 = at })) =
     subst (IsDeeper deep id.0) found.parent (deeper id.0 found.domain found.is) in
     let rest : Walked deep at (ends id.0) high (member_numbers (members_by seek ids)) (members_depth (members_by seek ids)) =

@@ -21,13 +21,12 @@ use Rattle.cd_parse.specs.Parsing.{parse}
 use Rattle.cd_parse.specs.Sound.{IsRangeOf, IsPlaceOf, IsItemOf, IsDomainOf, IsFaultOf, IsSound}
 use Rattle.cd_parse.specs.WellRead.{IsFound, IsReadRange, IsReadPlace, IsReadOp, AreReadRegions, AreReadEntries, AreReadItems, IsReadDomain, AreReadDomains, IsFoundKind, IsReadFault, AreReadFaults, WellRead}
 use Rattle.cd_parse.proofs.SoundChanges.{no_draft_is_sound, counted_is_sound}
-use Rattle.cd_parse.proofs.SoundBodies.{statement_keeps_sound}
+use Rattle.cd_parse.proofs.SoundStatements.{statement_keeps_sound}
 use Rattle.cd_parse.proofs.SoundKeeps.{IsKept, Draws, parsed_draws}
 use Rattle.cd_parse.proofs.SoundPlaces.{Have, have}
-use Rattle.cd_parse.proofs.SoundNamed.{Named, no_draft_is_named}
-use Rattle.cd_parse.proofs.SoundNamedStatements.{statement_keeps_named}
-use Rattle.cd_parse.proofs.SoundTold.{OpText, ItemText, EntryText, DomainText, FaultText, Told, no_draft_is_told, fits_end}
-use Rattle.cd_parse.proofs.SoundToldStatements.{statement_keeps_told}
+use Rattle.cd_parse.proofs.Found.{OpText, FaultText, statement_keeps}
+use Rattle.cd_parse.proofs.SoundNamed.{Named, no_draft_is_named, named_changes}
+use Rattle.cd_parse.proofs.SoundTold.{ItemText, EntryText, DomainText, Told, no_draft_is_told, fits_end, told_changes}
 use Rattle.cd_parse.proofs.SoundParsing.{sound_is_tree}
 
 -- ---- regions
@@ -206,7 +205,7 @@ keeping_is_kept =
       count = λ draft number is.
           record {
             sound = counted_is_sound draft number is.sound;
-            named = record { names = is.named.names; quiet = is.named.quiet };
+            named = record { in_domains = is.named.in_domains; in_faults = is.named.in_faults; quiet = is.named.quiet };
             told = record {
               version = is.told.version;
               kinds = is.told.kinds;
@@ -219,8 +218,8 @@ keeping_is_kept =
       statement = λ variables tokens draft next is made.
           record {
             sound = statement_keeps_sound variables tokens draft next is.sound made;
-            named = statement_keeps_named variables tokens draft next is.named made;
-            told = statement_keeps_told variables tokens draft next is.sound is.told made;
+            named = statement_keeps Named named_changes variables tokens draft next is.sound is.named made;
+            told = statement_keeps Told told_changes variables tokens draft next is.sound is.told made;
           };
     }
 
@@ -238,10 +237,10 @@ parsed_is_well_read bytes document is =
       version = fits_end draft.stage draft.version draft.kinds from.ends told.version;
       kinds = told.kinds;
       regions = told.regions;
-      few_regions = sound.few_regions;
+      few_regions = sound.heads.few_regions;
       tree = sound_is_tree draft sound from.ends;
-      domains = domains_read draft.regions told.regions draft.domains named.names.in_domains told.domains;
-      faults = faults_read draft.regions draft.kinds told.regions draft.faults named.names.in_faults told.faults;
+      domains = domains_read draft.regions told.regions draft.domains named.in_domains told.domains;
+      faults = faults_read draft.regions draft.kinds told.regions draft.faults named.in_faults told.faults;
       few_faults = sound.few_faults;
     } in
     subst WellRead from.is well

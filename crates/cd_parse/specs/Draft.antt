@@ -41,33 +41,43 @@ no_draft =
 
 -- ---- where a statement may stand
 
+-- what may stand at a stage: `cd`; a kind; a region or the root; `faults`; a strike; the end of the text
+pub record Takes : Type 0 where
+  pub start : Bool
+  pub kinds : Bool
+  pub regions : Bool
+  pub faults : Bool
+  pub strikes : Bool
+  pub end : Bool
+
+abbrev nothing : Takes
+nothing = record { start = false; kinds = false; regions = false; faults = false; strikes = false; end = false }
+
+abbrev pub takes : Stage → Takes
+takes Start = record nothing { start = true }
+takes Kinds = record nothing { kinds = true; regions = true }
+takes Regions = record nothing { regions = true }
+takes Root = nothing
+takes Closed = record nothing { faults = true; end = true }
+takes Strikes = record nothing { strikes = true; end = true }
+
 abbrev pub is_start : Stage → Bool
-is_start Start = true
-is_start _ = false
+is_start stage = (takes stage).start
 
 abbrev pub takes_kinds : Stage → Bool
-takes_kinds Kinds = true
-takes_kinds _ = false
+takes_kinds stage = (takes stage).kinds
 
--- behind `cd` and the kinds, before the root
 abbrev pub takes_regions : Stage → Bool
-takes_regions Kinds = true
-takes_regions Regions = true
-takes_regions _ = false
+takes_regions stage = (takes stage).regions
 
 abbrev pub is_closed : Stage → Bool
-is_closed Closed = true
-is_closed _ = false
+is_closed stage = (takes stage).faults
 
 abbrev pub takes_strikes : Stage → Bool
-takes_strikes Strikes = true
-takes_strikes _ = false
+takes_strikes stage = (takes stage).strikes
 
--- behind the root's end or behind `faults`
 abbrev pub may_end : Stage → Bool
-may_end Closed = true
-may_end Strikes = true
-may_end _ = false
+may_end stage = (takes stage).end
 
 abbrev pub is_open : Option (List NodeId) → Bool
 is_open None = false

@@ -1,5 +1,5 @@
 -- Operations: their parts by the tokens after their names, and which lengths and ranges fit.
-use Rattle.std.specs.Prelude.{ℕ, ◌+◌, Bool, true, ◌&&◌, ◌||◌, not, nat_le, ◌==◌, List, [], ◌∷◌, Result, Ok, Err, codes, if◌then◌else◌}
+use Rattle.std.specs.Prelude.{ℕ, ◌+◌, Bool, true, ◌&&◌, ◌||◌, not, nat_le, ◌==◌, List, [], ◌∷◌, Result, Ok, Err, if◌then◌else◌}
 use Rattle.std.specs.Str.{bytes_eq}
 use Rattle.cd_base.specs.declared.place.Range.{Range}
 use Rattle.cd_tree.specs.declared.document.Region.{Region}
@@ -12,8 +12,10 @@ use Rattle.cd_tokens.specs.declared.sums.Variable.{Variable}
 use Rattle.cd_tokens.specs.Wrongs.{both, ◌>>=◌}
 use Rattle.cd_tokens.specs.Sums.{expression}
 use Rattle.cd_parse.specs.Ranges.{range_in}
+use Rattle.cd_parse.specs.declared.signature.OpName.TheVariants as name
+use Rattle.cd_parse.specs.Signatures.{op_text}
 
--- ---- what stands behind an operation's name
+-- ---- what stands after an operation's name
 
 -- two ranges
 unfoldable pub two_ranges : List Variable → List Region → List (List ℕ) → Result (Range × Range) Wrong
@@ -60,38 +62,38 @@ spmv_in variables regions _ = Err Form
 -- an operation with two ranges, by its name
 abbrev pub short_op : List ℕ → Range → Range → Result Op Wrong
 short_op keyword d x =
-    if bytes_eq keyword (codes "copy") then Ok (Copy d x)
-    else (if bytes_eq keyword (codes "scan") then Ok (Scan d x)
-    else (if bytes_eq keyword (codes "sum") then Ok (Sum d x)
-    else (if bytes_eq keyword (codes "max") then Ok (Max d x)
+    if bytes_eq keyword (op_text name.Copy) then Ok (Copy d x)
+    else (if bytes_eq keyword (op_text name.Scan) then Ok (Scan d x)
+    else (if bytes_eq keyword (op_text name.Sum) then Ok (Sum d x)
+    else (if bytes_eq keyword (op_text name.Max) then Ok (Max d x)
     else Err Form)))
 
 -- an operation with three ranges, by its name
 abbrev pub long_op : List ℕ → Range → Range → Range → Result Op Wrong
 long_op keyword d x z =
-    if bytes_eq keyword (codes "add") then Ok (Add d x z)
-    else (if bytes_eq keyword (codes "sub") then Ok (Sub d x z)
-    else (if bytes_eq keyword (codes "mul") then Ok (Mul d x z)
-    else (if bytes_eq keyword (codes "dot") then Ok (Dot d x z)
+    if bytes_eq keyword (op_text name.Add) then Ok (Add d x z)
+    else (if bytes_eq keyword (op_text name.Sub) then Ok (Sub d x z)
+    else (if bytes_eq keyword (op_text name.Mul) then Ok (Mul d x z)
+    else (if bytes_eq keyword (op_text name.Dot) then Ok (Dot d x z)
     else Err Form)))
 
 abbrev pub is_short : List ℕ → Bool
 is_short keyword =
-    bytes_eq keyword (codes "copy") || (bytes_eq keyword (codes "scan") || (bytes_eq keyword (codes "sum") || bytes_eq keyword (codes "max")))
+    bytes_eq keyword (op_text name.Copy) || (bytes_eq keyword (op_text name.Scan) || (bytes_eq keyword (op_text name.Sum) || bytes_eq keyword (op_text name.Max)))
 
 abbrev pub is_long : List ℕ → Bool
 is_long keyword =
-    bytes_eq keyword (codes "add") || (bytes_eq keyword (codes "sub") || (bytes_eq keyword (codes "mul") || bytes_eq keyword (codes "dot")))
+    bytes_eq keyword (op_text name.Add) || (bytes_eq keyword (op_text name.Sub) || (bytes_eq keyword (op_text name.Mul) || bytes_eq keyword (op_text name.Dot)))
 
 -- the operation of this name and these tokens
 unfoldable pub op_in : List Variable → List Region → List ℕ → List (List ℕ) → Result Op Wrong
 op_in variables regions keyword tokens =
     if is_short keyword then (two_ranges variables regions tokens >>= λ p. short_op keyword p.0 p.1)
     else (if is_long keyword then (three_ranges variables regions tokens >>= λ p. long_op keyword p.0 p.1.0 p.1.1)
-    else (if bytes_eq keyword (codes "fill") then fill_in variables regions tokens
-    else (if bytes_eq keyword (codes "axpy") then axpy_in variables regions tokens
-    else (if bytes_eq keyword (codes "stencil") then stencil_in variables regions tokens
-    else (if bytes_eq keyword (codes "spmv") then spmv_in variables regions tokens
+    else (if bytes_eq keyword (op_text name.Fill) then fill_in variables regions tokens
+    else (if bytes_eq keyword (op_text name.Axpy) then axpy_in variables regions tokens
+    else (if bytes_eq keyword (op_text name.Stencil) then stencil_in variables regions tokens
+    else (if bytes_eq keyword (op_text name.Spmv) then spmv_in variables regions tokens
     else Err Form)))))
 
 -- ---- lengths and ranges

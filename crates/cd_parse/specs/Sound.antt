@@ -123,25 +123,33 @@ IsStaged Root domains levels = (0 < length domains) × (0 < length levels)
 IsStaged Closed domains levels = (0 < length domains) × (levels ≡ [])
 IsStaged Strikes domains levels = (0 < length domains) × (levels ≡ [])
 
+-- what stands before the root, within its limits: kinds with different names, and regions with words
+pub record AreHeads (kinds : List KindName) (regions : List Region) (words : ℕ) : Type 0 where
+  pub kinds_differ : KindsDiffer kinds
+  pub few_kinds : length kinds ≤ kinds_limit
+  pub some_words : All (λ (region : Region). 0 < region.length) regions
+  pub few_regions : length regions ≤ regions_limit
+  pub few_words : words ≤ words_limit
+
+-- the domains so far, with those that are open, are met in preorder, and within their limits
+pub record AreOpened (domains : List Domain) (levels : List Level) (items preserves : ℕ) : Type 0 where
+  pub ends : ℕ → ℕ
+  pub deep : ℕ → ℕ
+  pub walk : IsWalk ends deep domains levels
+  pub siblings : SiblingsDiffer domains
+  pub few : length domains ≤ domains_limit
+  pub deep_levels : length levels ≤ depth_limit
+  pub all_items : sum_by (λ (domain : Domain). length domain.items) domains + open_groups levels ≡ items
+  pub few_items : items ≤ items_limit
+  pub all_preserves : sum_by (λ (domain : Domain). length domain.entries) domains ≡ preserves
+  pub few_preserves : preserves ≤ preserves_limit
+
 -- all that a program has to be, but for the groups that are open
 pub record IsSound (draft : DraftModel) : Type 0 where
   pub staged : IsStaged draft.stage draft.domains draft.levels
-  pub ends : ℕ → ℕ
-  pub deep : ℕ → ℕ
-  pub walk : IsWalk ends deep draft.domains draft.levels
+  pub heads : AreHeads draft.kinds draft.regions draft.words
+  pub tree : AreOpened draft.domains draft.levels draft.items draft.preserves
   pub each : EachFits draft.kinds draft.domains 0 draft.domains
-  pub siblings : SiblingsDiffer draft.domains
-  pub kinds : KindsDiffer draft.kinds
-  pub few_kinds : length draft.kinds ≤ kinds_limit
-  pub few : length draft.domains ≤ domains_limit
-  pub deep_levels : length draft.levels ≤ depth_limit
-  pub items : sum_by (λ (domain : Domain). length domain.items) draft.domains + open_groups draft.levels ≡ draft.items
-  pub few_items : draft.items ≤ items_limit
-  pub preserves : sum_by (λ (domain : Domain). length domain.entries) draft.domains ≡ draft.preserves
-  pub few_preserves : draft.preserves ≤ preserves_limit
-  pub regions : All (λ (region : Region). 0 < region.length) draft.regions
-  pub few_regions : length draft.regions ≤ regions_limit
-  pub words : draft.words ≤ words_limit
   pub few_faults : length draft.faults ≤ faults_limit
 
 -- ---- what a document names is there
@@ -167,16 +175,3 @@ pub record IsDomainOf (regions : List Region) (domain : Domain) : Type 0 where
 pub record IsFaultOf (kinds : List KindName) (regions : List Region) (fault : RawFault) : Type 0 where
   pub kind : fault.kind.0 < length kinds
   pub place : IsPlaceOf regions fault.place
-
--- no two regions have the same name
-abbrev pub RegionsDiffer : List Region → Type 0
-RegionsDiffer regions =
-    (i j : ℕ) (one other : Region) → slice_get regions i ≡ Some one → slice_get regions j ≡ Some other
-    → one.name ≡ other.name → i ≡ j
-
--- all that a document names is there, and each name is of one region
-pub record IsNamed (kinds : List KindName) (regions : List Region) (domains : List Domain) (faults : List RawFault) : Type 0 where
-  pub differ : RegionsDiffer regions
-  pub places : All (λ (region : Region). 0 < region.length) regions
-  pub in_domains : All (IsDomainOf regions) domains
-  pub in_faults : All (IsFaultOf kinds regions) faults

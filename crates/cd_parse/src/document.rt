@@ -1,3 +1,4 @@
+//! The document that a text is, or its first refusal.
 ghost use Rattle.std.specs.Prelude.{◌≡◌, ◌≤◌, length};
 ghost use Rattle.cd_tree.specs.Limits.{text_limit};
 ghost use Rattle.cd_tree.specs.TreeModel.{IsTree};

@@ -11,8 +11,8 @@ ghost use Rattle.cd_parse.specs.Rooms.{HaveRoom};
 ghost use Rattle.cd_parse.specs.Heads.{name_fits, begun, cd_in, short_how, long_how, how_in, with_entry_of, preserve_in, faults_in, is_kind_name, with_kind_named, kind_in, room_for_domain, words_fit, region_of, with_region, regioned, region_statement, time_in, damage_in, with_fault, struck, strike_in, group_in, end_in, has_domain_form, retry_fits, domain_named, with_domain, domained, domain_in};
 
 use crate::draft::{Draft, Stage};
-use crate::operations::{fits, op_in};
-use crate::ranges::{place_in, range_in};
+use crate::operations::fits;
+use crate::ranges::Scope;
 use cd_base::{Bytes, Items, NoMemory, Pattern, Place, Range, Text};
 use cd_tokens::{
     Stop, Variable, Wrong, all_hold, both, expression, guard, is_base, kind, kind_set, name, path,
@@ -163,7 +163,11 @@ pub(crate) fn preserve(
     match tokens {
         [range, more @ ..] => {
             let stage = guard(draft.takes_entries(), Wrong::Form);
-            let range = range_in(variables, draft.regions.items(), range.as_slice());
+            let scope = Scope {
+                variables,
+                regions: draft.regions.items(),
+            };
+            let range = scope.range_in(range.as_slice());
             let how = how_in(variables, more);
             let (_, (range, how)) = both(stage, both(range, how))?;
             add_entry(draft, range, how)
@@ -357,12 +361,13 @@ fn damage_in(
 ) -> Result<(Kind, (Place, u64)), Wrong>
     ensures { result ≡ damage_in variables.now draft.now token.now place.now mask.now }
 {
+    let scope = Scope {
+        variables,
+        regions: draft.regions.items(),
+    };
     both(
         kind(draft.kinds.items(), token),
-        both(
-            place_in(variables, draft.regions.items(), place),
-            expression(variables, mask),
-        ),
+        both(scope.place_in(place), expression(variables, mask)),
     )
 }
 
@@ -455,7 +460,11 @@ pub(crate) fn operation(
     ensures { Steps draft.new result (operation_in variables.now draft.old keyword.now rest.now) }
 {
     let stage = guard(draft.takes_items(), Wrong::Form);
-    let op = op_in(variables, draft.regions.items(), keyword, rest);
+    let scope = Scope {
+        variables,
+        regions: draft.regions.items(),
+    };
+    let op = scope.op_in(keyword, rest);
     let (_, op) = both(stage, op)?;
     add_op(draft, op)
 }

@@ -1,3 +1,4 @@
+//! Regions, ranges and places by their tokens.
 ghost use Rattle.std.specs.Prelude.{◌≡◌, ◌<◌, ◌^◌, ◌++◌, length, position, MatchOption, IsSome, None, Some, decimal};
 ghost use Rattle.cd_tokens.specs.Sums.{is_dot};
 ghost use Rattle.cd_parse.specs.Ranges.{whole, region_named, base_region, numbered_region, region_in, some_words, one_place, one_word, bracketed, index_in, part_at, part_in, range_in, place_in};
@@ -5,6 +6,13 @@ ghost use Rattle.cd_parse.specs.Ranges.{whole, region_named, base_region, number
 use cd_base::{Place, Range};
 use cd_tokens::{Variable, Wrong, both, bounds, expression, find, guard, is_base, is_numbered};
 use cd_tree::Region;
+
+/// Where a token is read: the variables with their values, and the regions declared so far.
+#[derive(Clone, Copy)]
+pub(crate) struct Scope<'a> {
+    pub variables: &'a [Variable],
+    pub regions: &'a [Region],
+}
 
 // All words of the region with this number.
 fn whole(number: u32, region: &Region) -> Range
@@ -43,15 +51,17 @@ fn region_numbered(regions: &[Region], base: &[u8], number: u64) -> Result<Range
     Err(Wrong::NoRegion)
 }
 
-// All words of the region that a token names.
-#[tactic(auto, unfolding(crate::specs::Ranges::region_in, cd_tokens::specs::Names::name))]
-fn region_in(variables: &[Variable], regions: &[Region], token: &[u8]) -> Result<Range, Wrong>
-    requires { length regions.now < 2 ^ 32 }
-    ensures { result ≡ region_in variables.now regions.now token.now }
-{
-    match find(token, b':') {
-        None => base_region(regions, token),
-        Some(at) => numbered_region(variables, regions, &token[..at], &token[at + 1..]),
+impl Scope<'_> {
+    // All words of the region that a token names.
+    #[tactic(auto, unfolding(crate::specs::Ranges::region_in, cd_tokens::specs::Names::name))]
+    fn region_in(self, token: &[u8]) -> Result<Range, Wrong>
+        requires { length self.regions.now < 2 ^ 32 }
+        ensures { result ≡ region_in self.entry.variables.now self.entry.regions.now token.now }
+    {
+        match find(token, b':') {
+            None => base_region(self.regions, token),
+            Some(at) => self.numbered_region(&token[..at], &token[at + 1..]),
+        }
     }
 }
 
@@ -63,20 +73,17 @@ fn base_region(regions: &[Region], token: &[u8]) -> Result<Range, Wrong>
     region_named(regions, token)
 }
 
-fn numbered_region(
-    variables: &[Variable],
-    regions: &[Region],
-    base: &[u8],
-    number: &[u8],
-) -> Result<Range, Wrong>
-    requires { length regions.now < 2 ^ 32 }
-    ensures { result ≡ numbered_region variables.now regions.now base.now number.now }
-{
-    let (_, number) = both(
-        guard(is_base(base), Wrong::Form),
-        expression(variables, number),
-    )?;
-    region_numbered(regions, base, number)
+impl Scope<'_> {
+    fn numbered_region(self, base: &[u8], number: &[u8]) -> Result<Range, Wrong>
+        requires { length self.regions.now < 2 ^ 32 }
+        ensures { result ≡ numbered_region self.entry.variables.now self.entry.regions.now base.now number.now }
+    {
+        let (_, number) = both(
+            guard(is_base(base), Wrong::Form),
+            expression(self.variables, number),
+        )?;
+        region_numbered(self.regions, base, number)
+    }
 }
 
 // The words from `low` to below `high` of a region.
@@ -133,132 +140,87 @@ fn bracketed(token: &[u8]) -> Option<&[u8]>
     }
 }
 
-// The word of a region with this index.
-fn index_in(
-    variables: &[Variable],
-    regions: &[Region],
-    region: &[u8],
-    index: &[u8],
-) -> Result<Place, Wrong>
-    requires { length regions.now < 2 ^ 32 }
-    ensures { result ≡ index_in variables.now regions.now region.now (Some index.now) }
-{
-    let (region, index) = both(
-        region_in(variables, regions, region),
-        expression(variables, index),
-    )?;
-    one_place(region, index)
-}
-
-fn word_in(
-    variables: &[Variable],
-    regions: &[Region],
-    region: &[u8],
-    index: &[u8],
-) -> Result<Range, Wrong>
-    requires { length regions.now < 2 ^ 32 }
-    ensures { result ≡ part_at variables.now regions.now region.now index.now None }
-{
-    let (region, index) = both(
-        region_in(variables, regions, region),
-        expression(variables, index),
-    )?;
-    one_word(region, index)
-}
-
-// The words of a region between two numbers.
-#[tactic(auto, unfolding(cd_tokens::specs::Sums::bounds))]
-fn words_in(
-    variables: &[Variable],
-    regions: &[Region],
-    region: &[u8],
-    numbers: &[u8],
-) -> Result<Range, Wrong>
-    requires few { length regions.now < 2 ^ 32 }
-    requires dot { IsSome (position is_dot numbers.now) }
-    ensures { result ≡ part_at variables.now regions.now region.now numbers.now (position is_dot numbers.now) }
-{
-    let (region, (low, high)) = both(
-        region_in(variables, regions, region),
-        bounds(variables, numbers),
-    )?;
-    some_words(region, low, high)
-}
-
-// The words of a region that stand in brackets.
-fn part_in(
-    variables: &[Variable],
-    regions: &[Region],
-    region: &[u8],
-    numbers: &[u8],
-) -> Result<Range, Wrong>
-    requires { length regions.now < 2 ^ 32 }
-    ensures { result ≡ part_in variables.now regions.now region.now (Some numbers.now) }
-{
-    match find(numbers, b'.') {
-        None => word_in(variables, regions, region, numbers),
-        Some(_) => words_in(variables, regions, region, numbers),
+impl Scope<'_> {
+    // The word of a region with this index.
+    fn index_in(self, region: &[u8], index: &[u8]) -> Result<Place, Wrong>
+        requires { length self.regions.now < 2 ^ 32 }
+        ensures { result ≡ index_in self.entry.variables.now self.entry.regions.now region.now (Some index.now) }
+    {
+        let (region, index) = both(self.region_in(region), expression(self.variables, index))?;
+        one_place(region, index)
     }
-}
 
-fn bracketed_part(
-    variables: &[Variable],
-    regions: &[Region],
-    region: &[u8],
-    rest: &[u8],
-) -> Result<Range, Wrong>
-    requires { length regions.now < 2 ^ 32 }
-    ensures { result ≡ part_in variables.now regions.now region.now (bracketed rest.now) }
-{
-    match bracketed(rest) {
-        None => Err(Wrong::Form),
-        Some(numbers) => part_in(variables, regions, region, numbers),
+    fn word_in(self, region: &[u8], index: &[u8]) -> Result<Range, Wrong>
+        requires { length self.regions.now < 2 ^ 32 }
+        ensures { result ≡ part_at self.entry.variables.now self.entry.regions.now region.now index.now None }
+    {
+        let (region, index) = both(self.region_in(region), expression(self.variables, index))?;
+        one_word(region, index)
     }
-}
 
-fn bracketed_index(
-    variables: &[Variable],
-    regions: &[Region],
-    region: &[u8],
-    rest: &[u8],
-) -> Result<Place, Wrong>
-    requires { length regions.now < 2 ^ 32 }
-    ensures { result ≡ index_in variables.now regions.now region.now (bracketed rest.now) }
-{
-    match bracketed(rest) {
-        None => Err(Wrong::Form),
-        Some(index) => index_in(variables, regions, region, index),
+    // The words of a region between two numbers.
+    #[tactic(auto, unfolding(cd_tokens::specs::Sums::bounds))]
+    fn words_in(self, region: &[u8], numbers: &[u8]) -> Result<Range, Wrong>
+        requires few { length self.regions.now < 2 ^ 32 }
+        requires dot { IsSome (position is_dot numbers.now) }
+        ensures { result ≡ part_at self.entry.variables.now self.entry.regions.now region.now numbers.now (position is_dot numbers.now) }
+    {
+        let (region, (low, high)) = both(self.region_in(region), bounds(self.variables, numbers))?;
+        some_words(region, low, high)
     }
-}
 
-/// NAME, NAME[E..E] or NAME[E]. It takes no memory.
-#[tactic(auto, unfolding(crate::specs::Ranges::range_in))]
-pub(crate) fn range_in(
-    variables: &[Variable],
-    regions: &[Region],
-    token: &[u8],
-) -> Result<Range, Wrong>
-    requires { length regions.now < 2 ^ 32 }
-    ensures { result ≡ range_in variables.now regions.now token.now }
-{
-    match find(token, b'[') {
-        None => region_in(variables, regions, token),
-        Some(at) => bracketed_part(variables, regions, &token[..at], &token[at + 1..]),
+    // The words of a region that stand in brackets.
+    fn part_in(self, region: &[u8], numbers: &[u8]) -> Result<Range, Wrong>
+        requires { length self.regions.now < 2 ^ 32 }
+        ensures { result ≡ part_in self.entry.variables.now self.entry.regions.now region.now (Some numbers.now) }
+    {
+        match find(numbers, b'.') {
+            None => self.word_in(region, numbers),
+            Some(_) => self.words_in(region, numbers),
+        }
     }
-}
 
-/// NAME[E]. It takes no memory.
-#[tactic(auto, unfolding(crate::specs::Ranges::place_in))]
-pub(crate) fn place_in(
-    variables: &[Variable],
-    regions: &[Region],
-    token: &[u8],
-) -> Result<Place, Wrong>
-    requires { length regions.now < 2 ^ 32 }
-    ensures { result ≡ place_in variables.now regions.now token.now }
-{
-    match find(token, b'[') {
-        None => Err(Wrong::Form),
-        Some(at) => bracketed_index(variables, regions, &token[..at], &token[at + 1..]),
+    fn bracketed_part(self, region: &[u8], rest: &[u8]) -> Result<Range, Wrong>
+        requires { length self.regions.now < 2 ^ 32 }
+        ensures { result ≡ part_in self.entry.variables.now self.entry.regions.now region.now (bracketed rest.now) }
+    {
+        match bracketed(rest) {
+            None => Err(Wrong::Form),
+            Some(numbers) => self.part_in(region, numbers),
+        }
+    }
+
+    fn bracketed_index(self, region: &[u8], rest: &[u8]) -> Result<Place, Wrong>
+        requires { length self.regions.now < 2 ^ 32 }
+        ensures { result ≡ index_in self.entry.variables.now self.entry.regions.now region.now (bracketed rest.now) }
+    {
+        match bracketed(rest) {
+            None => Err(Wrong::Form),
+            Some(index) => self.index_in(region, index),
+        }
+    }
+
+    /// NAME, NAME[E..E] or NAME[E]. It takes no memory.
+    #[tactic(auto, unfolding(crate::specs::Ranges::range_in))]
+    pub(crate) fn range_in(self, token: &[u8]) -> Result<Range, Wrong>
+        requires { length self.regions.now < 2 ^ 32 }
+        ensures { result ≡ range_in self.entry.variables.now self.entry.regions.now token.now }
+    {
+        match find(token, b'[') {
+            None => self.region_in(token),
+            Some(at) => self.bracketed_part(&token[..at], &token[at + 1..]),
+        }
+    }
+
+    /// NAME[E]. It takes no memory.
+    #[tactic(auto, unfolding(crate::specs::Ranges::place_in))]
+    pub(crate) fn place_in(self, token: &[u8]) -> Result<Place, Wrong>
+        requires { length self.regions.now < 2 ^ 32 }
+        ensures { result ≡ place_in self.entry.variables.now self.entry.regions.now token.now }
+    {
+        match find(token, b'[') {
+            None => Err(Wrong::Form),
+            Some(at) => self.bracketed_index(&token[..at], &token[at + 1..]),
+        }
     }
 }

@@ -1,5 +1,6 @@
 -- Kinds and paths are read as themselves.
 use Rattle.std.proofs.Common.{◌≡◌, ◌≢◌, ℕ, ◌+◌, ◌*◌, ◌/◌, ◌%◌, ◌^◌, ◌<◌, ◌≤◌, Bool, true, false, cond, nat_lt, ◌&&◌, ◌||◌, List, [], ◌∷◌, ◌++◌, length, map, bit_or, bit_and, refl, sym, ap, ◌∙◌, subst, arith, append_assoc, append-nil, length-append}
+use Rattle.std.proofs.lemmas.Bool.{or_parts}
 use Rattle.std.specs.Prelude.{Result, Ok, Err, ◌==◌, codes}
 use Rattle.std.specs.List.{slice_split, join_with_byte}
 use Rattle.std.specs.Str.{bytes_eq}
@@ -65,14 +66,6 @@ path_read token r =
 
 -- ---- one kind
 
-or_first : (a b : Bool) → (a || b) ≡ false → a ≡ false
-or_first true b e = absurd (cc)
-or_first false b e = refl
-
-or_second : (a b : Bool) → (a || b) ≡ false → b ≡ false
-or_second true b e = absurd (cc)
-or_second false b e = e
-
 and_false : (a b : Bool) → b ≡ false → (a && b) ≡ false
 and_false true b e = e
 and_false false b e = refl
@@ -89,8 +82,8 @@ kind_found at [] it behind number first same few =
     ∙ ap (λ (n : ℕ). Ok (record { 0 = n })) here
 kind_found at (one ∷ before) it behind number first same few =
     otherwise (nat_lt at 16 && bytes_eq one.name it.name) (Ok (record { 0 = at })) (kind_from (at + 1) (before ++ it ∷ behind) it.name)
-    (and_false (nat_lt at 16) (bytes_eq one.name it.name) (or_first (bytes_eq one.name it.name) (has_kind_named before it.name) first))
-    ∙ kind_found (at + 1) before it behind number (or_second (bytes_eq one.name it.name) (has_kind_named before it.name) first) (omega (arith, same)) few
+    (and_false (nat_lt at 16) (bytes_eq one.name it.name) (or_parts (bytes_eq one.name it.name) (has_kind_named before it.name) first).0)
+    ∙ kind_found (at + 1) before it behind number (or_parts (bytes_eq one.name it.name) (has_kind_named before it.name) first).1 (omega (arith, same)) few
 
 pub kind_read : (before : List KindName) (it : KindName) (behind : List KindName) (number : ℕ) → has_kind_named before it.name ≡ false
     → number ≡ length before → number < 16 → kind (before ++ it ∷ behind) it.name ≡ Ok (record { 0 = number })

@@ -1,5 +1,6 @@
 -- A program's view as a list is the program's list of domains, and no name in it is taken.
 use Rattle.std.proofs.Common.{◌≡◌, ℕ, zero, suc, ◌+◌, ◌<◌, Bool, true, false, ◌&&◌, ◌||◌, List, [], ◌∷◌, ◌++◌, length, slice_get, Option, Some, None, refl, sym, ap, ◌∙◌, subst, arith, append_assoc, length-append}
+use Rattle.std.proofs.lemmas.Bool.{and_parts}
 use Rattle.std.specs.Str.{bytes_eq}
 use Rattle.std.proofs.lemmas.Option.{same_Some, slice_get_within}
 use Rattle.std.proofs.lemmas.Slice.Eq.{bytes_eq-Decides}
@@ -87,14 +88,6 @@ same_parent None (Some b) e = absurd (cc)
 same_parent (Some a) None e = absurd (cc)
 same_parent (Some a) (Some b) e = let number : a.0 ≡ b.0 = grind (arith, nat_tests) in ap (λ (n : ℕ). Some (record { 0 = n })) number
 
-and_first : (a b : Bool) → (a && b) ≡ true → a ≡ true
-and_first true b e = refl
-and_first false b e = e
-
-and_second : (a b : Bool) → (a && b) ≡ true → b ≡ true
-and_second true b e = e
-and_second false b e = absurd (cc)
-
 no_child : (before : List Domain) (parent : Option NodeId) (name : List ℕ)
     → ((j : ℕ) (d : Domain) → slice_get before j ≡ Some d → d.parent ≡ parent → d.name ≡ name → ⊥) → has_child_named before parent name ≡ false
 no_child [] parent name none = refl
@@ -102,8 +95,8 @@ no_child (one ∷ before) parent name none = by (is_parent one.parent parent && 
   where
     by : (t : Bool) → (is_parent one.parent parent && bytes_eq one.name name) ≡ t → has_child_named before parent name ≡ false → (t || has_child_named before parent name) ≡ false
     by true e rest =
-        absurd (none 0 one refl (same_parent one.parent parent (and_first (is_parent one.parent parent) (bytes_eq one.name name) e))
-        ((bytes_eq-Decides one.name name).0 (and_second (is_parent one.parent parent) (bytes_eq one.name name) e)))
+        absurd (none 0 one refl (same_parent one.parent parent (and_parts (is_parent one.parent parent) (bytes_eq one.name name) e).0)
+        ((bytes_eq-Decides one.name name).0 (and_parts (is_parent one.parent parent) (bytes_eq one.name name) e).1))
     by false e rest = rest
 
 found_front : (before rest : List Domain) (j : ℕ) (d : Domain) → slice_get before j ≡ Some d → slice_get (before ++ rest) j ≡ Some d

@@ -1,5 +1,6 @@
 -- Names, ranges, places and patterns are read as themselves.
 use Rattle.std.proofs.Common.{◌≡◌, ℕ, zero, suc, ◌+◌, ◌^◌, ◌<◌, ◌≤◌, Bool, true, false, nat_lt, nat_le, ◌&&◌, ◌||◌, List, [], ◌∷◌, ◌++◌, length, take, drop, slice_get, Option, Some, None, refl, sym, ap, ◌∙◌, arith, append_assoc, length-append}
+use Rattle.std.proofs.lemmas.Bool.{and_parts, or_parts}
 use Rattle.std.specs.Prelude.{Result, Ok, Err, ◌==◌, codes}
 use Rattle.std.specs.Fmt.{decimal}
 use Rattle.std.specs.List.{list_all, position}
@@ -34,18 +35,10 @@ abbrev pub Named : List ℕ → Type 0
 Named [] = Unit {0}
 Named (b ∷ bytes) = (is_name_byte b ≡ true) × Named bytes
 
-and_first : (a b : Bool) → (a && b) ≡ true → a ≡ true
-and_first true b e = refl
-and_first false b e = e
-
-and_second : (a b : Bool) → (a && b) ≡ true → b ≡ true
-and_second true b e = e
-and_second false b e = absurd (cc)
-
 named_bytes : (bytes : List ℕ) → list_all is_name_byte bytes ≡ true → Named bytes
 named_bytes [] e = tt
 named_bytes (b ∷ bytes) e =
-    (and_first (is_name_byte b) (list_all is_name_byte bytes) e, named_bytes bytes (and_second (is_name_byte b) (list_all is_name_byte bytes) e))
+    ((and_parts (is_name_byte b) (list_all is_name_byte bytes) e).0, named_bytes bytes (and_parts (is_name_byte b) (list_all is_name_byte bytes) e).1)
 
 letter_named : (b : ℕ) → is_letter b ≡ true → is_name_byte b ≡ true
 letter_named b e = ap (λ (t : Bool). t || (is_digit b || (b == 95))) e
@@ -53,7 +46,7 @@ letter_named b e = ap (λ (t : Bool). t || (is_digit b || (b == 95))) e
 pub base_named : (token : List ℕ) → is_base token ≡ true → Named token
 base_named [] e = tt
 base_named (b ∷ bytes) e =
-    (letter_named b (and_first (is_letter b) (list_all is_name_byte bytes) e), named_bytes bytes (and_second (is_letter b) (list_all is_name_byte bytes) e))
+    (letter_named b (and_parts (is_letter b) (list_all is_name_byte bytes) e).0, named_bytes bytes (and_parts (is_letter b) (list_all is_name_byte bytes) e).1)
 
 pub base_some : (token : List ℕ) → is_base token ≡ true → 0 < length token
 base_some [] e = absurd (cc)
@@ -88,14 +81,6 @@ same_bytes token = (bytes_eq-Decides token token).1 refl
 
 -- ---- regions
 
-or_first : (a b : Bool) → (a || b) ≡ false → a ≡ false
-or_first true b e = absurd (cc)
-or_first false b e = refl
-
-or_second : (a b : Bool) → (a || b) ≡ false → b ≡ false
-or_second true b e = absurd (cc)
-or_second false b e = e
-
 region_found : (at : ℕ) (regions : List Region) (k : ℕ) (region : Region) (number : ℕ) → slice_get regions k ≡ Some region
     → has_region_named (take k regions) region.name ≡ false → number ≡ at + k → region_from at regions region.name ≡ Ok (whole number region)
 region_found at [] k region number is first same = absurd (cc)
@@ -107,9 +92,9 @@ region_found at (one ∷ regions) zero region number is first same =
     ∙ ap (λ (n : ℕ). Ok (whole n one)) here ∙ ap (λ (r : Region). Ok (whole number r)) it
 region_found at (one ∷ regions) (suc k) region number is first same =
     otherwise (bytes_eq one.name region.name) (Ok (whole at one)) (region_from (at + 1) regions region.name)
-    (or_first (bytes_eq one.name region.name) (has_region_named (take k regions) region.name) first)
+    (or_parts (bytes_eq one.name region.name) (has_region_named (take k regions) region.name) first).0
     ∙ region_found (at + 1) regions k region number is
-    (or_second (bytes_eq one.name region.name) (has_region_named (take k regions) region.name) first) (omega (arith, same))
+    (or_parts (bytes_eq one.name region.name) (has_region_named (take k regions) region.name) first).1 (omega (arith, same))
 
 pub region_read : (regions : List Region) (number : ℕ) (region : Region) → IsFound regions number region
     → region_in [] regions region.name ≡ Ok (whole number region)

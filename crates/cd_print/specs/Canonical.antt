@@ -16,8 +16,10 @@ use Rattle.cd_tree.specs.declared.domain.How.TheVariants as how
 use Rattle.cd_tree.specs.declared.kinds.Kind.{Kind}
 use Rattle.cd_tree.specs.declared.kinds.KindName.{KindName}
 use Rattle.cd_tree.specs.declared.operation.Op.{Op}
-use Rattle.cd_tree.specs.declared.operation.Op.TheVariants.{Fill, Copy, Add, Sub, Mul, Axpy, Scan, Sum, Dot, Max, Stencil, Spmv}
 use Rattle.cd_tree.specs.KindSets.{has_kind}
+use Rattle.cd_parse.specs.declared.signature.Operand.{Operand}
+use Rattle.cd_parse.specs.declared.signature.Operand.TheVariants as operand
+use Rattle.cd_parse.specs.Signatures.{op_text, name_of, operands}
 use Rattle.cd_tree.specs.Domains.{Node, node, Body, stop, run, group, Members, no_more, member, root_of}
 
 -- ---- the text of statements
@@ -26,11 +28,15 @@ use Rattle.cd_tree.specs.Domains.{Node, node, Body, stop, run, group, Members, n
 abbrev pub Statement : Type 0
 Statement = List (List ℕ)
 
+-- what follows the first token of a line: a space before each further one, and a line feed
+abbrev pub line_end : Statement → List ℕ
+line_end [] = codes "\n"
+line_end (token ∷ tokens) = 32 ∷ (token ++ line_end tokens)
+
 -- a statement's line: its tokens with a space between each two, and a line feed
 abbrev pub line : Statement → List ℕ
 line [] = codes "\n"
-line (token ∷ []) = token ++ codes "\n"
-line (token ∷ next ∷ tokens) = token ++ 32 ∷ line (next ∷ tokens)
+line (token ∷ tokens) = token ++ line_end tokens
 
 abbrev pub lines : List Statement → List ℕ
 lines statements = flat_map line statements
@@ -101,23 +107,13 @@ how_tokens (how.Regen pattern) = codes "regen" ∷ pattern_tokens pattern
 abbrev pub entry_statement : List Region → Entry → Statement
 entry_statement regions entry = codes "preserve" ∷ range_token regions entry.range ∷ how_tokens entry.how
 
--- an operation: its name, and its parts in order, the destination first
+abbrev pub operand_token : List Region → Operand → List ℕ
+operand_token regions (operand.Range range) = range_token regions range
+operand_token regions (operand.Number number) = decimal number
+
+-- an operation: its name, and its operands in order
 abbrev pub op_statement : List Region → Op → Statement
-op_statement regions (Fill d k) = codes "fill" ∷ range_token regions d ∷ decimal k ∷ []
-op_statement regions (Copy d x) = codes "copy" ∷ range_token regions d ∷ range_token regions x ∷ []
-op_statement regions (Add d x z) = codes "add" ∷ range_token regions d ∷ range_token regions x ∷ range_token regions z ∷ []
-op_statement regions (Sub d x z) = codes "sub" ∷ range_token regions d ∷ range_token regions x ∷ range_token regions z ∷ []
-op_statement regions (Mul d x z) = codes "mul" ∷ range_token regions d ∷ range_token regions x ∷ range_token regions z ∷ []
-op_statement regions (Axpy d k x) = codes "axpy" ∷ range_token regions d ∷ decimal k ∷ range_token regions x ∷ []
-op_statement regions (Scan d x) = codes "scan" ∷ range_token regions d ∷ range_token regions x ∷ []
-op_statement regions (Sum d x) = codes "sum" ∷ range_token regions d ∷ range_token regions x ∷ []
-op_statement regions (Dot d x z) = codes "dot" ∷ range_token regions d ∷ range_token regions x ∷ range_token regions z ∷ []
-op_statement regions (Max d x) = codes "max" ∷ range_token regions d ∷ range_token regions x ∷ []
-op_statement regions (Stencil d a b c x) =
-    codes "stencil" ∷ range_token regions d ∷ decimal a ∷ decimal b ∷ decimal c ∷ range_token regions x ∷ []
-op_statement regions (Spmv d s c v x) =
-    codes "spmv" ∷ range_token regions d ∷ range_token regions s ∷ range_token regions c ∷ range_token regions v
-    ∷ range_token regions x ∷ []
+op_statement regions op = op_text (name_of op) ∷ map (operand_token regions) (operands op)
 
 -- strike PATH E E KIND PLACE E
 abbrev pub strike_statement : List Region → List KindName → RawFault → Statement

@@ -2,6 +2,10 @@
 //!
 //! `specs/Canonical.antt` defines the text: the statements of a document as lists of tokens, and a line for each. The
 //! text is made whole, and then written by as many writes as it takes.
+//!
+//! A document is lifted to version 2 so:
+//!
+//!     print_document(alloc, &lifted(document), &mut sink)?;
 #![tactic(auto)]
 
 pub mod laws;

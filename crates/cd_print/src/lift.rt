@@ -1,3 +1,4 @@
+//! A document in version 2 of the language.
 ghost use Rattle.std.specs.Prelude.{◌≡◌};
 ghost use Rattle.cd_print.specs.Canonical as canonical;
 

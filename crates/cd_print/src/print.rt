@@ -1,3 +1,4 @@
+//! The text of a document, part by part.
 ghost use Rattle.std.specs.Prelude.{◌≡◌, ◌++◌, length, map, IfOk, OnOk, string_bytes};
 ghost use Rattle.cd_base.specs.Ends.{WriteAll};
 ghost use Rattle.cd_tree.specs.TreeModel.{TreeModel};

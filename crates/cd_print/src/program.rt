@@ -1,3 +1,4 @@
+//! The lines of a program: its domains with all that stands in them.
 ghost use Rattle.std.specs.Prelude.{◌≡◌, ◌<◌, ◌++◌, [], ◌∷◌, length, map, OnOk, string_bytes};
 ghost use Rattle.cd_tree.specs.declared.domain.Item.TheVariants.{Group};
 ghost use Rattle.cd_tree.specs.TreeModel.{IsTree, FitsItems, NamesChildren};

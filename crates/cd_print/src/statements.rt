@@ -1,4 +1,6 @@
+//! The lines of statements: kinds, regions, the heads of domains, entries and strikes.
 ghost use Rattle.std.specs.Prelude.{◌≡◌, ◌≤◌, ◌++◌, [], ◌∷◌, length, IfOk, OnOk, string_bytes, decimal};
+ghost use Rattle.cd_tree.specs.Limits.{kinds_limit};
 ghost use Rattle.cd_print.specs.Canonical.{line, kind_token, place_token, kind_statement, region_statement, domain_statement, entry_statement, strike_statement};
 
 use crate::tokens::{add_kinds, how_end, kind_name, pattern_end, place_text, range_text};
@@ -34,7 +36,7 @@ pub fn add_head(
     domain: &Domain,
     text: &mut String,
 ) -> Result<(), AllocError>
-    requires { length kinds.now ≤ 16 }
+    requires { length kinds.now ≤ kinds_limit }
     ensures { OnOk result (string_bytes text.new ≡ string_bytes text.old ++ line (domain_statement kinds.now domain.now)) }
 {
     let name = domain.name.as_str();

@@ -1,4 +1,6 @@
+//! The tokens that statements are made of.
 ghost use Rattle.std.specs.Prelude.{◌≡◌, ◌<◌, ◌≤◌, ◌^◌, ◌++◌, ◌∷◌, length, IfOk, OnOk, string_bytes, codes, if◌then◌else◌};
+ghost use Rattle.cd_tree.specs.Limits.{kinds_limit};
 ghost use Rattle.cd_print.specs.Canonical.{line, region_token, range_token, place_token, kind_token, kinds_token, how_tokens, pattern_tokens};
 
 use cd_base::{Pattern, Place, Range};
@@ -72,7 +74,7 @@ fn regen_end(alloc: Global, pattern: Pattern) -> Result<String, AllocError>
 
 /// Puts the names of the kinds of a set behind a text, joined by commas, or `none`.
 pub fn add_kinds(names: &[KindName], kinds: Kinds, text: &mut String) -> Result<(), AllocError>
-    requires { length names.now ≤ 16 }
+    requires { length names.now ≤ kinds_limit }
     ensures { OnOk result (string_bytes text.new ≡ string_bytes text.old ++ kinds_token names.now kinds) }
 {
     let mut is_empty = true;

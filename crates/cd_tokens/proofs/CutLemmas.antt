@@ -1,5 +1,5 @@
 -- Tokens that are cut where a byte stands first.
-use Rattle.std.proofs.Common.{◌≡◌, ℕ, suc, ◌+◌, ◌-◌, ◌<◌, ◌≤◌, Bool, true, false, not, cond, nat_lt, List, [], ◌∷◌, length, take, drop, get_or, Some, None, refl, sym, ap, ◌∙◌, subst, arith, length-drop}
+use Rattle.std.proofs.Common.{◌≡◌, ℕ, suc, ◌+◌, ◌-◌, ◌<◌, ◌≤◌, Bool, true, false, not, cond, nat_lt, List, [], ◌∷◌, length, take, drop, get_or, Some, None, refl, sym, ap, ◌∙◌, subst, arith, length-drop, ltb-true, ltb-false}
 use Rattle.std.specs.List.{onto_first, position, position_or_len, slice_split}
 use Rattle.std.proofs.lemmas.Bool.Decides.{nat_tests}
 use Rattle.std.proofs.lemmas.Option.{cond_some}
@@ -9,16 +9,7 @@ use Rattle.cd_tokens.specs.declared.wrong.Wrong.{Wrong}
 use Rattle.cd_tokens.specs.declared.sums.Variable.{Variable}
 use Rattle.cd_tokens.specs.Cuts.{is_byte, part_of, CutsAt, IsUncut, CutsSignAt}
 use Rattle.cd_tokens.specs.Sums.{is_sign, Part, put_byte, cut_at_signs, parts_of, plus, term, sum_on}
-
-at_most : (n m : ℕ) → nat_lt n m ≡ false → m ≤ n
-at_most n m e = grind (arith, nat_tests)
-
-below : (n m : ℕ) → nat_lt n m ≡ true → n < m
-below n m e = grind (arith, nat_tests)
-
-none_found : (b : Bool) (n : ℕ) → cond b (Some n) None ≡ None → b ≡ false
-none_found true n e = absurd (cc)
-none_found false n e = refl
+use Rattle.cd_tokens.proofs.LineLemmas.{none_found}
 
 -- ---- lists that are split
 
@@ -49,11 +40,11 @@ split_only p (x ∷ xs) h = one_more p (p x) x (position_or_len p xs) xs (split_
 pub split_cut : (p : ℕ → Bool) (xs : List ℕ) (at : ℕ) → position p xs ≡ Some at → slice_split p xs ≡ take at xs ∷ slice_split p (drop (at + 1) xs)
 split_cut p xs at e =
     let f = cond_some (nat_lt (position_or_len p xs) (length xs)) (position_or_len p xs) at e in
-    subst (λ (n : ℕ). slice_split p xs ≡ take n xs ∷ slice_split p (drop (n + 1) xs)) f.1 (split_first p xs (below _ _ f.0))
+    subst (λ (n : ℕ). slice_split p xs ≡ take n xs ∷ slice_split p (drop (n + 1) xs)) f.1 (split_first p xs (ltb-true _ _ f.0))
 
 -- a list without a byte of the test is one part
 pub split_whole : (p : ℕ → Bool) (xs : List ℕ) → position p xs ≡ None → slice_split p xs ≡ xs ∷ []
-split_whole p xs e = split_only p xs (at_most _ _ (none_found (nat_lt (position_or_len p xs) (length xs)) (position_or_len p xs) e))
+split_whole p xs e = split_only p xs (ltb-false _ _ (none_found (nat_lt (position_or_len p xs) (length xs)) (position_or_len p xs) e))
 
 -- the same, as the slices of the code show it
 pub split_cut_slice : (p : ℕ → Bool) (xs : List ℕ) (at : ℕ) → position p xs ≡ Some at
@@ -63,7 +54,7 @@ split_cut_slice p xs at e = rw (take_rest xs (at + 1)) (split_cut p xs at e)
 pub rest_shorter : (p : ℕ → Bool) (xs : List ℕ) (at : ℕ) → position p xs ≡ Some at → length (take (length xs - (at + 1)) (drop (at + 1) xs)) < length xs
 rest_shorter p xs at e =
     let f = cond_some (nat_lt (position_or_len p xs) (length xs)) (position_or_len p xs) at e in
-    let g : at < length xs = subst (λ (n : ℕ). n < length xs) f.1 (below _ _ f.0) in
+    let g : at < length xs = subst (λ (n : ℕ). n < length xs) f.1 (ltb-true _ _ f.0) in
     rw (take_rest xs (at + 1)) (rest_length xs at g) where
       rest_length : (xs : List ℕ) (at : ℕ) → at < length xs → length (drop (at + 1) xs) < length xs
       rest_length xs at g = rw (length-drop (at + 1) xs) (omega arith)
@@ -115,7 +106,7 @@ pub parts_cut : (s : ℕ) (xs : List ℕ) (at : ℕ) → position is_sign xs ≡
     → parts_of s xs ≡ part s (take at xs) ∷ parts_of (get_or xs at 0) (drop (at + 1) xs)
 parts_cut s xs at e =
     let f = cond_some (nat_lt (position_or_len is_sign xs) (length xs)) (position_or_len is_sign xs) at e in
-    let g : cut_at_signs xs ≡ cut_behind at xs = subst (λ (n : ℕ). cut_at_signs xs ≡ cut_behind n xs) f.1 (sign_first xs (below _ _ f.0)) in
+    let g : cut_at_signs xs ≡ cut_behind at xs = subst (λ (n : ℕ). cut_at_signs xs ≡ cut_behind n xs) f.1 (sign_first xs (ltb-true _ _ f.0)) in
     ap (λ (cut : List ℕ × List Part). part s cut.0 ∷ cut.1) g
 
 pub parts_cut_slice : (s : ℕ) (xs : List ℕ) (at : ℕ) → position is_sign xs ≡ Some at
@@ -130,7 +121,7 @@ cuts_sign_at xs at e = record { parts = λ sign. parts_cut_slice sign xs at e; s
 pub parts_whole : (s : ℕ) (xs : List ℕ) → position is_sign xs ≡ None → parts_of s xs ≡ part s xs ∷ []
 parts_whole s xs e =
     ap (λ (cut : List ℕ × List Part). part s cut.0 ∷ cut.1)
-    (no_sign xs (at_most _ _ (none_found (nat_lt (position_or_len is_sign xs) (length xs)) (position_or_len is_sign xs) e)))
+    (no_sign xs (ltb-false _ _ (none_found (nat_lt (position_or_len is_sign xs) (length xs)) (position_or_len is_sign xs) e)))
 
 -- a sum goes on behind its first part
 pub sum_part : (variables : List Variable) (sum : Result ℕ Wrong) (sign next : ℕ) (token before behind : List ℕ) (whole : Result ℕ Wrong)

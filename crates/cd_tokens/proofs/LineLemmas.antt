@@ -1,5 +1,5 @@
 -- The first line of a text, and where it is cut.
-use Rattle.std.proofs.Common.{◌≡◌, ℕ, suc, ◌+◌, ◌-◌, ◌<◌, ◌≤◌, Bool, true, false, not, cond, nat_lt, List, [], ◌∷◌, length, take, drop, Some, None, refl, sym, ap, ◌∙◌, subst, arith, ◌^◌, map}
+use Rattle.std.proofs.Common.{◌≡◌, ℕ, suc, ◌+◌, ◌-◌, ◌<◌, ◌≤◌, Bool, true, false, not, cond, nat_lt, List, [], ◌∷◌, length, take, drop, Some, None, refl, sym, ap, ◌∙◌, subst, arith, ◌^◌, map, ltb-true, ltb-false}
 use Rattle.std.specs.Prelude.{filter, count_by}
 use Rattle.std.specs.Borrow.{Bor}
 use Rattle.std.proofs.lemmas.List.{length-map}
@@ -39,23 +39,17 @@ lines_only : (xs : List ℕ) → length xs ≤ position_or_len is_feed xs → 0 
 lines_only [] h k = absurd (omega arith)
 lines_only (x ∷ xs) h k = one_more (is_feed x) x (position_or_len is_feed xs) xs (lines_only xs) h
 
-at_most : (n m : ℕ) → nat_lt n m ≡ false → m ≤ n
-at_most n m e = grind (arith, nat_tests)
-
-below : (n m : ℕ) → nat_lt n m ≡ true → n < m
-below n m e = grind (arith, nat_tests)
-
-none_found : (b : Bool) (n : ℕ) → cond b (Some n) None ≡ None → b ≡ false
+pub none_found : (b : Bool) (n : ℕ) → cond b (Some n) None ≡ None → b ≡ false
 none_found true n e = absurd (cc)
 none_found false n e = refl
 
 pub lines_cut : (xs : List ℕ) (at : ℕ) → position is_feed xs ≡ Some at → lines xs ≡ take at xs ∷ lines (drop (at + 1) xs)
 lines_cut xs at e =
     let f = cond_some (nat_lt (position_or_len is_feed xs) (length xs)) (position_or_len is_feed xs) at e in
-    subst (λ (n : ℕ). lines xs ≡ take n xs ∷ lines (drop (n + 1) xs)) f.1 (lines_first xs (below _ _ f.0))
+    subst (λ (n : ℕ). lines xs ≡ take n xs ∷ lines (drop (n + 1) xs)) f.1 (lines_first xs (ltb-true _ _ f.0))
 
 pub lines_whole : (xs : List ℕ) → position is_feed xs ≡ None → 0 < length xs → lines xs ≡ xs ∷ []
-lines_whole xs e h = lines_only xs (at_most _ _ (none_found (nat_lt (position_or_len is_feed xs) (length xs)) (position_or_len is_feed xs) e)) h
+lines_whole xs e h = lines_only xs (ltb-false _ _ (none_found (nat_lt (position_or_len is_feed xs) (length xs)) (position_or_len is_feed xs) e)) h
 
 -- the same, as the slices of the code show it
 pub lines_cut_slice : (xs : List ℕ) (at : ℕ) → position is_feed xs ≡ Some at

@@ -1,5 +1,6 @@
 -- Names are texts.
 use Rattle.std.proofs.Common.{◌≡◌, ℕ, zero, suc, ◌+◌, ◌/◌, ◌%◌, ◌<◌, ◌≤◌, ◌^◌, Bool, true, false, ◌&&◌, List, [], ◌∷◌, ◌++◌, length, get_or, refl, sym, ap, ◌∙◌, arith, append_assoc}
+use Rattle.std.proofs.lemmas.Bool.{and_parts}
 use Rattle.std.specs.Prelude.{◌==◌, decimal}
 use Rattle.std.proofs.lemmas.Fmt.{decimal_step, decimal_by_steps}
 use Rattle.std.specs.Str.{bytes_eq}
@@ -14,24 +15,16 @@ letter_ascii b e = grind (arith, nat_tests)
 name_byte_ascii : (b : ℕ) → is_name_byte b ≡ true → b < 128
 name_byte_ascii b e = grind (arith, nat_tests)
 
-and_first : (a b : Bool) → (a && b) ≡ true → a ≡ true
-and_first true b e = refl
-and_first false b e = e
-
-and_second : (a b : Bool) → (a && b) ≡ true → b ≡ true
-and_second true b e = e
-and_second false b e = absurd (cc)
-
 name_bytes_ascii : (bytes : List ℕ) → list_all is_name_byte bytes ≡ true → (i : ℕ) → get_or bytes i 0 < 128
 name_bytes_ascii [] e i = omega arith
-name_bytes_ascii (b ∷ bytes) e zero = name_byte_ascii b (and_first (is_name_byte b) (list_all is_name_byte bytes) e)
-name_bytes_ascii (b ∷ bytes) e (suc i) = name_bytes_ascii bytes (and_second (is_name_byte b) (list_all is_name_byte bytes) e) i
+name_bytes_ascii (b ∷ bytes) e zero = name_byte_ascii b (and_parts (is_name_byte b) (list_all is_name_byte bytes) e).0
+name_bytes_ascii (b ∷ bytes) e (suc i) = name_bytes_ascii bytes (and_parts (is_name_byte b) (list_all is_name_byte bytes) e).1 i
 
 -- a name is a text of ASCII
 pub base_ascii : (bytes : List ℕ) → is_base bytes ≡ true → IsAscii bytes
 base_ascii [] e i = omega arith
-base_ascii (b ∷ bytes) e zero = letter_ascii b (and_first (is_letter b) (list_all is_name_byte bytes) e)
-base_ascii (b ∷ bytes) e (suc i) = name_bytes_ascii bytes (and_second (is_letter b) (list_all is_name_byte bytes) e) i
+base_ascii (b ∷ bytes) e zero = letter_ascii b (and_parts (is_letter b) (list_all is_name_byte bytes) e).0
+base_ascii (b ∷ bytes) e (suc i) = name_bytes_ascii bytes (and_parts (is_letter b) (list_all is_name_byte bytes) e).1 i
 
 -- ---- texts with a number at their end
 

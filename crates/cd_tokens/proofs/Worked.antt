@@ -1,5 +1,5 @@
 -- Worked cases of the parts of statements: each is proved by computing both sides.
-use Rattle.std.proofs.Common.{◌≡◌, List, [], ◌∷◌, refl}
+use Rattle.std.proofs.Common.{◌≡◌, List, [], ◌∷◌, map, refl}
 use Rattle.std.specs.Prelude.{Ok, Err, codes, true, false}
 use Rattle.std.specs.Fmt.{digits}
 use Rattle.cd_base.specs.declared.pattern.Pattern.TheVariants.{Const, Iota}
@@ -98,18 +98,10 @@ unknown : expression two (codes "18446744073709551616+q") ≡ Err Form
 unfolding expression term plus times atom
 unknown = refl
 
--- no term may be empty
-empty_term : expression two (codes "1+") ≡ Err Form
+-- no term and no factor may be empty
+empty_parts : map (expression two) (codes "1+" ∷ codes "-1" ∷ codes "2**a" ∷ []) ≡ Err Form ∷ Err Form ∷ Err Form ∷ []
 unfolding expression term plus times atom
-empty_term = refl
-
-negative : expression two (codes "-1") ≡ Err Form
-unfolding expression term plus times atom
-negative = refl
-
-empty_factor : expression two (codes "2**a") ≡ Err Form
-unfolding expression term plus times atom
-empty_factor = refl
+empty_parts = refl
 
 bounded : bounds two (codes "2*a..row") ≡ Ok (6, 10)
 unfolding bounds expression term plus times atom

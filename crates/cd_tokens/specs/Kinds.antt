@@ -4,6 +4,7 @@ use Rattle.std.specs.List.{slice_split}
 use Rattle.std.specs.Str.{bytes_eq}
 use Rattle.cd_base.specs.declared.pattern.Pattern.{Pattern}
 use Rattle.cd_base.specs.declared.pattern.Pattern.TheVariants.{Const, Iota, Mix}
+use Rattle.cd_tree.specs.Limits.{kinds_limit}
 use Rattle.cd_tree.specs.declared.kinds.Kind.{Kind}
 use Rattle.cd_tree.specs.declared.kinds.KindName.{KindName}
 use Rattle.cd_tree.specs.KindSets.{no_kinds, with_kind, has_kind}
@@ -13,11 +14,11 @@ use Rattle.cd_tokens.specs.declared.sums.Variable.{Variable}
 use Rattle.cd_tokens.specs.Wrongs.{both, ◌>>=◌}
 use Rattle.cd_tokens.specs.Sums.{expression}
 
--- the kind with this name among these, which are numbered from `at` on; a number from 16 on is no kind
+-- the kind with this name among these, which are numbered from `at` on; a number from the most kinds on is no kind
 abbrev pub kind_from : ℕ → List KindName → List ℕ → Result Kind Wrong
 kind_from at [] name = Err Form
 kind_from at (kind ∷ kinds) name =
-    if nat_lt at 16 && bytes_eq kind.name name then Ok (record { 0 = at }) else kind_from (at + 1) kinds name
+    if nat_lt at kinds_limit && bytes_eq kind.name name then Ok (record { 0 = at }) else kind_from (at + 1) kinds name
 
 -- the kind with this name
 unfoldable pub kind : List KindName → List ℕ → Result Kind Wrong

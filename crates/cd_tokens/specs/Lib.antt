@@ -1,3 +1,4 @@
+-- What the tokens of a text mean: lines and blocks, numbers, names, kinds, and what is wrong with them.
 pub mod Wrongs
 pub mod Lines
 pub mod Blocks

@@ -1,3 +1,4 @@
+//! The lines of a text laid out for parsing: the role of each, and where the block around it goes on.
 ghost use Rattle.std.specs.Prelude.{◌≡◌, ◌∷◌, ◌+◌, ◌<◌, ◌≤◌, ◌^◌, length, reverse, IfOk};
 ghost use Rattle.cd_tree.specs.Limits.{text_limit};
 ghost use Rattle.cd_tokens.specs.Lines.{lines, tokens};

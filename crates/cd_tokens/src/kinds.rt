@@ -1,3 +1,4 @@
+//! Kinds of faults by their names, and patterns.
 ghost use Rattle.std.specs.Prelude.{◌≡◌};
 ghost use Rattle.std.specs.List.{slice_split};
 ghost use Rattle.cd_tree.specs.KindSets.{no_kinds};
@@ -6,7 +7,7 @@ ghost use Rattle.cd_tokens.specs.Kinds.{kind, one_more_kind, with_kind_named, ki
 use crate::sums::{Variable, cut, expression};
 use crate::wrong::{Wrong, both};
 use cd_base::{Bytes, Pattern};
-use cd_tree::{Kind, KindName, Kinds};
+use cd_tree::{Kind, KindName, Kinds, limits};
 
 /// The kind with this name. It takes no memory.
 #[tactic(auto, unfolding(crate::specs::Kinds::kind))]
@@ -14,7 +15,7 @@ pub fn kind(kinds: &[KindName], name: &[u8]) -> Result<Kind, Wrong>
     ensures { result ≡ kind kinds.now name.now }
 {
     for (number, kind) in kinds.iter().enumerate() {
-        if number < 16 && kind.name.as_str().as_bytes() == name {
+        if number < limits::MOST_KINDS as usize && kind.name.as_str().as_bytes() == name {
             return Ok(Kind(number as u8));
         }
     }

@@ -1,5 +1,10 @@
 //! The tokens of a document: its text as lines, lines as tokens and blocks, and the parts that statements are made of:
 //! numbers and sums, names, kinds, patterns; and how what is wrong with the parts of a statement becomes its one refusal.
+//!
+//! In the second turn of `for row in 0..4` the bounds of `b[2*row..2*row+2]` are read so:
+//!
+//!     let row = Variable { name, value: 1 };
+//!     bounds(&[row], b"2*row..2*row+2") == Ok((2, 4))
 #![tactic(auto)]
 
 mod blocks;

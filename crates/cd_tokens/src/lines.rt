@@ -1,3 +1,4 @@
+//! A text as lines, and a line as tokens.
 ghost use Rattle.std.specs.Prelude.{◌≡◌, ◌∷◌, ◌+◌, ◌<◌, ◌≤◌, ◌^◌, length, map, filter, IfOk};
 ghost use Rattle.std.specs.List.{slice_split};
 ghost use Rattle.cd_tree.specs.Limits.{text_limit};

@@ -1,3 +1,4 @@
+//! Names, whose ending may be computed, and paths of names.
 ghost use Rattle.std.specs.Prelude.{◌≡◌, [], ◌++◌, ◌∷◌, true, IfOk, OnOk, Ok, bytes_eq, decimal, string_bytes};
 ghost use Rattle.std.specs.List.{slice_split};
 ghost use Rattle.cd_tokens.specs.Sums.{is_base};

@@ -1,3 +1,4 @@
+//! Numbers: digits, variables, products and sums, each intermediate result within 64 bits.
 ghost use Rattle.std.specs.Prelude.{◌≡◌, ◌+◌, ◌*◌, ◌-◌, ◌<◌, ◌^◌, ◌==◌, true, length, position, MatchOption, Some, None};
 ghost use Rattle.std.specs.List.{list_all};
 ghost use Rattle.cd_tokens.specs.Cuts.{Cuts, CutsSign};

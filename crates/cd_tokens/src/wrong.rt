@@ -1,3 +1,4 @@
+//! What is wrong with a statement or a part of one, and which of it comes first.
 ghost use Rattle.std.specs.Prelude.{◌≡◌, ◌+◌, ◌<◌, ◌^◌};
 ghost use Rattle.cd_tokens.specs.declared.wrong.Stop.TheVariants as stop;
 ghost use Rattle.cd_tokens.specs.Steps.{stopped_at};
