@@ -1,5 +1,6 @@
 -- Copies of words, taken and put back one by one.
 use Rattle.std.proofs.Common.{◌≡◌, ℕ, zero, suc, ◌+◌, ◌-◌, ◌<◌, ◌≤◌, true, List, [], ◌∷◌, ◌++◌, length, drop, get_or, Option, Some, unwrap_or, IsSome, arith, refl, ap, subst, sym, ◌∙◌, append_assoc, add-one}
+use Rattle.std.proofs.lemmas.Bool.{or_left, or_right, cond-true, cond-false}
 use Rattle.cd_base.specs.declared.place.Place.{Place}
 use Rattle.cd_base.specs.Words.{Words, in_range, word_at, put, same_place}
 use Rattle.cd_tree.specs.declared.domain.How.TheVariants as how
@@ -9,7 +10,7 @@ use Rattle.cd_tree.specs.Meaning.{in_entries}
 use Rattle.cd_tree.specs.Operations.{length_of}
 use Rattle.cd_field.specs.FieldModel.{FieldModel, told, refilled_word}
 use Rattle.cd_core.specs.Copies.{place_at, words_from, put_back, restored_from, AreCopies}
-use Rattle.cd_core.proofs.Places.{or_left, or_right, by_test, chosen, other}
+use Rattle.cd_base.proofs.BoolLemmas.{by_test}
 
 -- one word more is copied
 pub word_copied : (w : Words) (region index high word : ℕ) (words all : List ℕ) → index < high
@@ -46,8 +47,8 @@ put_back-known m region at (word ∷ words) p known =
     put_back-known (refilled_word m (place_at region at) word) region (suc at) words p
     (let Q : Option ℕ → Type 0 = λ o. IsSome o in
     by_test (same_place (place_at region at) p)
-    (λ t. subst Q (sym (chosen (same_place (place_at region at) p) (Some word) (m.words p) t)) refl)
-    (λ f. subst Q (sym (other (same_place (place_at region at) p) (Some word) (m.words p) f)) known))
+    (λ t. subst Q (sym (cond-true (same_place (place_at region at) p) (Some word) (m.words p) t)) refl)
+    (λ f. subst Q (sym (cond-false (same_place (place_at region at) p) (Some word) (m.words p) f)) known))
 
 pub put_back-node : (m : FieldModel) (region at : ℕ) (words : List ℕ) → (put_back m region at words).node ≡ m.node
 put_back-node m region at [] = refl

@@ -1,7 +1,7 @@
 -- The run of one domain from its program to its end.
 use Rattle.std.proofs.Common.{◌≡◌, ℕ, suc, zero, ◌-◌, ◌<◌, ◌≤◌, Bool, true, false, ◌==◌, List, [], ◌∷◌, ◌++◌, length, get_or, slice_get, Option, None, Some, All, IsSomeAnd, is_none, bit_or, arith, refl, ap, subst, sym, ◌∙◌, inl, inr, append_assoc}
 use Rattle.std.proofs.Math.Path.{fun_ext}
-use Rattle.std.proofs.lemmas.Bool.{and_parts, ltb-true, eqb-true}
+use Rattle.std.proofs.lemmas.Bool.{and_parts, ltb-true, eqb-true, false_from_ne_true, or_left}
 use Rattle.cd_base.specs.declared.place.Place.{Place}
 use Rattle.cd_base.specs.Words.{Words, PlaceSet}
 use Rattle.cd_tree.specs.declared.domain.NodeId.{NodeId}
@@ -25,7 +25,6 @@ use Rattle.cd_tree.specs.Record.{reading, cause_of}
 use Rattle.cd_field.specs.FieldModel.{FieldModel, IsPresent, begun, gone_up, told as told_to}
 use Rattle.cd_core.specs.Copies.{copies_of, restored_from, AreCopies, told_all}
 use Rattle.cd_core.specs.Single.{Leads, IsSimple, quiet_case, plain_body, root_id, root_try, root_again, root_reading, machine_after, words_after, StaysWithin, CanRun, IsReady, IsTried, EndsWith}
-use Rattle.cd_core.proofs.Places.{not_true, or_left}
 use Rattle.cd_core.proofs.Restoring.{restored-frame, restored-words, restored-lost, restored-events, copies_fit}
 use Rattle.cd_core.proofs.Following.{leads_after, tries_lead}
 
@@ -293,7 +292,7 @@ finish_escalated tree domain was m back later copies begins found one quiet runs
     let spare : domain.retry - begins ≡ 0 = omega (arith, all) in
     let P : ℕ → Type 0 = λ n. IsTried domain was m n found in
     ends_escalated tree domain was m back later copies found begins one quiet runs.orphan present
-    (not_true _ (λ t. some (eqb-true _ _ t))) copied (subst P spare ends.behind) ends.number back_is later_is
+    (false_from_ne_true _ (λ t. some (eqb-true _ _ t))) copied (subst P spare ends.behind) ends.number back_is later_is
 
 -- the copies are those of the words at the start
 pub copies_saved : (was b : FieldModel) (entries : List Entry) (domain : Domain) → b ≡ begun was root_id 1 → entries ≡ domain.entries

@@ -3,6 +3,7 @@ use Rattle.std.proofs.Common.{◌≡◌, ℕ, suc, ◌-◌, ◌<◌, true, false
 use Rattle.std.specs.Int.Bits.{or_add_and, and_le_l}
 use Rattle.std.proofs.lemmas.Nat.{and_le_r, pow_pos}
 use Rattle.std.proofs.lemmas.Bool.Decides.{nat_tests}
+use Rattle.std.proofs.lemmas.Bool.{false_from_ne_true, cond-true, cond-false, or_left}
 use Rattle.cd_tree.specs.declared.domain.NodeId.{NodeId}
 use Rattle.cd_tree.specs.declared.kinds.Kind.{Kind}
 use Rattle.cd_base.specs.declared.place.Place.{Place}
@@ -20,7 +21,7 @@ use Rattle.cd_tree.specs.Scripts.{words_struck, kinds_of}
 use Rattle.cd_field.specs.FieldModel.{FieldModel, hits_at, reached_point}
 use Rattle.cd_core.specs.Copies.{place_at}
 use Rattle.cd_core.specs.Single.{item_run, run_from, StaysWithin, CanRun}
-use Rattle.cd_core.proofs.Places.{same_from, not_true, chosen, other, or_left}
+use Rattle.cd_base.proofs.PlaceLemmas.{same_from}
 use Rattle.cd_core.proofs.Points.{hits_within, runs_reached, runs_on}
 
 -- a try changes words, events and notes alone
@@ -47,7 +48,7 @@ struck-outside entries [] w p out within = refl
 struck-outside entries (fault ∷ faults) w p out within =
     struck-outside entries faults (struck_word w fault.place fault.mask) p out
     (λ k d short. within (suc k) d (omega (arith, short)))
-    ∙ other (same_place fault.place p) _ (w p) (not_true _ (λ t.
+    ∙ cond-false (same_place fault.place p) _ (w p) (false_from_ne_true _ (λ t.
     let same : (fault.place.region ≡ p.region) × (fault.place.index ≡ p.index) = same_from fault.place p t in
     let inside : in_entries entries fault.place ≡ true = (within 0 fault (omega arith)).0 in
     let one : fault.place ≡ p = ap₂ (λ (r i : ℕ). place_at r i) same.0 same.1 in
@@ -58,7 +59,7 @@ struck-outside entries (fault ∷ faults) w p out within =
 pub meant-outside : (entries : List Entry) (op : Op) (w : Words) (p : Place) → in_entries entries p ≡ false
     → LieIn (in_ranges (op_writes op ∷ op_reads op)) (in_entries entries) → op_meaning op w p ≡ w p
 meant-outside entries op w p out lies =
-    other (in_range (op_writes op) p) (Some (column op w (p.index - (op_writes op).low))) (w p) (not_true _ (λ t.
+    cond-false (in_range (op_writes op) p) (Some (column op w (p.index - (op_writes op).low))) (w p) (false_from_ne_true _ (λ t.
     let there : in_entries entries p ≡ true = lies p (or_left (in_range (op_writes op) p) (in_ranges (op_reads op) p) t) in cc))
 
 -- a try leaves the words outside its entries
@@ -83,7 +84,7 @@ none_right a b none = omega (arith, or_add_and a b, and_le_l a b)
 kind_is_some : (kind : Kind) → kind.0 < 16 → only_kind kind ≡ 0 → ⊥
 kind_is_some kind small none =
     let test : nat_lt kind.0 16 ≡ true = grind (arith, nat_tests) in
-    let power : 2 ^ kind.0 ≡ 0 = sym (chosen (nat_lt kind.0 16) (2 ^ kind.0) 0 test) ∙ none in
+    let power : 2 ^ kind.0 ≡ 0 = sym (cond-true (nat_lt kind.0 16) (2 ^ kind.0) 0 test) ∙ none in
     omega (arith, pow_pos kind.0)
 
 -- faults with kinds leave a note

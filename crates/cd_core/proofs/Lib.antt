@@ -1,4 +1,3 @@
-pub mod Places
 pub mod Copying
 pub mod Points
 pub mod Frames

@@ -1,5 +1,6 @@
 -- What putting entries back gives.
 use Rattle.std.proofs.Common.{◌≡◌, ◌≢◌, ℕ, suc, zero, ◌+◌, ◌-◌, ◌<◌, ◌≤◌, true, false, List, [], ◌∷◌, ◌++◌, length, Option, Some, None, IsSome, unwrap_or, arith, refl, ap, ap₂, subst, sym, ◌∙◌, append_assoc, append-nil}
+use Rattle.std.proofs.lemmas.Bool.{false_from_ne_true, cond-true, cond-false, or_left, or_right}
 use Rattle.cd_base.specs.declared.place.Place.{Place}
 use Rattle.cd_base.specs.declared.place.Range.{Range}
 use Rattle.cd_base.specs.Words.{Words, in_range, word_at, same_place}
@@ -13,7 +14,8 @@ use Rattle.cd_tree.specs.Reading.{refilled_from}
 use Rattle.cd_field.specs.FieldModel.{FieldModel, IsPresent, told, refilled_word}
 use Rattle.cd_core.specs.Copies.{place_at, words_from, words_of, copies_of, put_back, restored_from, AreCopies}
 use Rattle.cd_core.specs.Single.{CanRun}
-use Rattle.cd_core.proofs.Places.{Inside, inside_from, inside_to, same_from, same_to, by_test, not_true, chosen, other, or_left, or_right}
+use Rattle.cd_base.proofs.PlaceLemmas.{Inside, inside_from, inside_to, same_from, same_to}
+use Rattle.cd_base.proofs.BoolLemmas.{by_test}
 use Rattle.cd_core.proofs.Copying.{put_back-node}
 
 -- putting words back changes words and what is lost alone
@@ -55,11 +57,11 @@ put_back-words w m region at (suc n) p known outside =
     (λ t.
     let same : (region ≡ p.region) × (at ≡ p.index) = same_from (place_at region at) p t in
     let some : IsSome (w p) = known (sym same.0) (omega (arith, same.1)) (omega (arith, same.1)) in
-    chosen (same_place (place_at region at) p) (Some (word_at w (place_at region at))) (m.words p) t
+    cond-true (same_place (place_at region at) p) (Some (word_at w (place_at region at))) (m.words p) t
     ∙ ap (λ (q : Place). Some (word_at w q)) (let e : place_at region at ≡ p = ap₂ (λ (r i : ℕ). place_at r i) same.0 same.1 in e)
     ∙ some_word (w p) some)
     (λ f.
-    other (same_place (place_at region at) p) (Some (word_at w (place_at region at))) (m.words p) f
+    cond-false (same_place (place_at region at) p) (Some (word_at w (place_at region at))) (m.words p) f
     ∙ outside (λ r low high.
     let apart : at ≢ p.index = λ e. (let t : same_place (place_at region at) p ≡ true = same_to (place_at region at) p (sym r) e in cc) in
     out r (omega arith) (omega arith))))
@@ -74,8 +76,8 @@ put_back-lost m region at (word ∷ words) p here =
     by_test (same_place (place_at region at) p)
     (λ t.
     let same : (region ≡ p.region) × (at ≡ p.index) = same_from (place_at region at) p t in
-    chosen (same_place (place_at region at) p) false (m.lost p) t ∙ sym (here (sym same.0) (omega (arith, same.1)) (omega (arith, same.1))))
-    (λ f. other (same_place (place_at region at) p) false (m.lost p) f) in
+    cond-true (same_place (place_at region at) p) false (m.lost p) t ∙ sym (here (sym same.0) (omega (arith, same.1)) (omega (arith, same.1))))
+    (λ f. cond-false (same_place (place_at region at) p) false (m.lost p) f) in
     put_back-lost (refilled_word m (place_at region at) word) region (suc at) words p
     (λ r low high. one ∙ here r (omega arith) (omega arith))
     ∙ one
@@ -88,7 +90,7 @@ pub copies_fit : (w : Words) (entries : List Entry) → AreCopies entries (copie
 copies_fit w [] = tt
 copies_fit w (entry ∷ entries) = (length-words_from w entry.range.region entry.range.low (length_of entry.range), copies_fit w entries)
 
--- restored entries have the words of their copies; other places keep theirs
+-- restored entries have the words of their copies; cond-false places keep theirs
 pub restored-words : (w : Words) (m : FieldModel) (at : ℕ) (entries : List Entry) (p : Place)
     → (in_entries entries p ≡ true → IsSome (w p))
     → (in_entries entries p ≡ false → m.words p ≡ w p)
@@ -101,7 +103,7 @@ restored-words w m at (entry ∷ entries) p known outside =
     (λ f. put_back-words w m r.region r.low (length_of r) p
     (λ e low high. known (or_left (in_range r p) (in_entries entries p)
     (inside_to r p (record { region = sym e; low = low; high = omega (arith, high, low) }))))
-    (λ out. outside (let g : in_range r p ≡ false = not_true (in_range r p) (λ t.
+    (λ out. outside (let g : in_range r p ≡ false = false_from_ne_true (in_range r p) (λ t.
     let i : Inside r p = inside_from r p t in
     let low : r.low ≤ p.index = i.low in let high : p.index < r.high = i.high in
     out (sym i.region) low (omega (arith, high, low))) in
@@ -145,11 +147,11 @@ runs_back all m region at (word ∷ words) runs =
           let Q : Option ℕ → Type 0 = λ o. IsSome o in
           record {
             known = by_test (same_place (place_at region at) p)
-                (λ t. subst Q (sym (chosen (same_place (place_at region at) p) (Some word) (m.words p) t)) refl)
-                (λ f. subst Q (sym (other (same_place (place_at region at) p) (Some word) (m.words p) f)) before.known);
+                (λ t. subst Q (sym (cond-true (same_place (place_at region at) p) (Some word) (m.words p) t)) refl)
+                (λ f. subst Q (sym (cond-false (same_place (place_at region at) p) (Some word) (m.words p) f)) before.known);
             here = by_test (same_place (place_at region at) p)
-                (λ t. chosen (same_place (place_at region at) p) false (m.lost p) t)
-                (λ f. other (same_place (place_at region at) p) false (m.lost p) f ∙ before.here);
+                (λ t. cond-true (same_place (place_at region at) p) false (m.lost p) t)
+                (λ f. cond-false (same_place (place_at region at) p) false (m.lost p) f ∙ before.here);
           };
       strikes = runs.strikes;
     })

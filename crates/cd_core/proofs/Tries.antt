@@ -1,6 +1,6 @@
 -- From one try to the next.
 use Rattle.std.proofs.Common.{◌≡◌, ℕ, suc, ◌+◌, ◌-◌, ◌<◌, true, false, ◌==◌, List, arith, ap, subst, sym, ◌∙◌, bit_and}
-use Rattle.std.proofs.lemmas.Bool.{eqb-true}
+use Rattle.std.proofs.lemmas.Bool.{eqb-true, false_from_ne_true}
 use Rattle.cd_base.specs.declared.place.Place.{Place}
 use Rattle.cd_base.specs.Words.{Words}
 use Rattle.cd_tree.specs.declared.domain.NodeId.{NodeId}
@@ -11,14 +11,13 @@ use Rattle.cd_tree.specs.Meaning.{in_entries}
 use Rattle.cd_field.specs.FieldModel.{FieldModel, IsPresent, begun}
 use Rattle.cd_core.specs.Copies.{copies_of}
 use Rattle.cd_core.specs.Single.{root_id, run_from, tried, restarted, StaysWithin, CanRun, IsReady, IsTried}
-use Rattle.cd_core.proofs.Places.{not_true}
 use Rattle.cd_core.proofs.Frames.{run_frame, runs_through}
 use Rattle.cd_core.proofs.Restoring.{restored-frame, runs_restored}
 use Rattle.cd_core.proofs.Following.{tried_from_ready, ready_again}
 
 -- where it is not so that nothing was found, the test says so
 pub some_found : (found : ℕ) → (found ≡ no_kinds → false ≡ true) → (found == no_kinds) ≡ false
-some_found found some = not_true _ (λ t. (let wrong : false ≡ true = some (eqb-true _ _ t) in cc))
+some_found found some = false_from_ne_true _ (λ t. (let wrong : false ≡ true = some (eqb-true _ _ t) in cc))
 
 pub runs_begun : (entries : List Entry) (m : FieldModel) (number : ℕ) → m.node ≡ root_id → CanRun entries m → CanRun entries (begun m root_id number)
 runs_begun entries m number root runs = record {
