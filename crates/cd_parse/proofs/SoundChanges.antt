@@ -13,7 +13,6 @@ use Rattle.cd_tree.specs.declared.operation.Op.{Op}
 use Rattle.cd_tree.specs.Operations.{op_reads, op_writes, IsFull, FitsShape}
 use Rattle.cd_tree.specs.TreeModel.{FitsItems, FitsDomain, EachFits}
 use Rattle.cd_parse.specs.declared.draft.Stage.{Stage}
-use Rattle.cd_parse.specs.declared.draft.Stage.TheVariants.{Start, Kinds, Regions, Root, Closed, Strikes}
 use Rattle.cd_parse.specs.declared.draft.Level.{Level}
 use Rattle.cd_parse.specs.Draft.{DraftModel, no_draft, changed, with_item, with_entry, add_item, add_entry, level_of, open_group, close_group}
 use Rattle.cd_parse.specs.Sound.{one_group, open_groups, ids_of, ids_in, members_in, named_by, FitsGroup, Tiles, IsLevel, IsStaged, IsSound}

@@ -1,5 +1,5 @@
 -- The statements before the root and behind it keep a draft sound.
-use Rattle.std.proofs.Common.{◌≡◌, ℕ, suc, ◌<◌, ◌≤◌, Bool, true, false, List, [], ◌∷◌, ◌++◌, Some, codes, length, slice_get, refl, ap, sym, ◌∙◌, subst, arith, All, inl, inr, bytes_eq}
+use Rattle.std.proofs.Common.{◌≡◌, ℕ, suc, ◌<◌, ◌≤◌, Bool, true, false, List, [], ◌∷◌, ◌++◌, Some, codes, length, slice_get, refl, ap, sym, ◌∙◌, subst, arith, inl, inr, bytes_eq}
 use Rattle.std.proofs.lemmas.List.Elements.{All-append, All-cons, All-nil}
 use Rattle.cd_tree.specs.Limits.{kinds_limit, regions_limit, words_limit, faults_limit}
 use Rattle.cd_tree.specs.declared.document.Region.{Region}
@@ -8,7 +8,7 @@ use Rattle.cd_tree.specs.declared.domain.Domain.{Domain}
 use Rattle.cd_tree.specs.declared.kinds.KindName.{KindName}
 use Rattle.cd_tree.specs.TreeModel.{EachFits, KindsDiffer}
 use Rattle.cd_parse.specs.declared.draft.Stage.{Stage}
-use Rattle.cd_parse.specs.declared.draft.Stage.TheVariants.{Start, Kinds, Regions, Root, Closed, Strikes}
+use Rattle.cd_parse.specs.declared.draft.Stage.TheVariants.{Kinds, Regions, Strikes}
 use Rattle.cd_parse.specs.declared.draft.Level.{Level}
 use Rattle.cd_parse.specs.Draft.{DraftModel, is_start, takes_kinds, takes_regions, is_closed, has_kind_named, kind_name, four_kinds}
 use Rattle.cd_parse.specs.Sound.{IsStaged, AreHeads, IsSound}

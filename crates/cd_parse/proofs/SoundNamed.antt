@@ -1,5 +1,5 @@
 -- All that a draft names is there: the changes of a draft keep it so.
-use Rattle.std.proofs.Common.{◌≡◌, ℕ, zero, suc, ◌+◌, ◌<◌, true, false, List, [], ◌∷◌, ◌++◌, Option, None, Some, length, slice_get, slice_index_or, refl, ap, sym, ◌∙◌, subst, arith, All, inl, inr, bytes_eq}
+use Rattle.std.proofs.Common.{◌≡◌, ℕ, zero, suc, ◌+◌, ◌<◌, true, List, [], ◌∷◌, ◌++◌, Option, None, Some, length, slice_index_or, refl, sym, subst, arith, All}
 use Rattle.std.proofs.lemmas.List.Elements.{All-head, All-tail, All-cons, All-nil, All-append}
 use Rattle.cd_tree.specs.declared.document.Region.{Region}
 use Rattle.cd_tree.specs.declared.document.RawFault.{RawFault}
@@ -12,7 +12,7 @@ use Rattle.cd_tree.specs.declared.kinds.KindName.{KindName}
 use Rattle.cd_tree.specs.declared.operation.Op.{Op}
 use Rattle.cd_tree.specs.Operations.{op_reads, op_writes}
 use Rattle.cd_parse.specs.declared.draft.Stage.{Stage}
-use Rattle.cd_parse.specs.declared.draft.Stage.TheVariants.{Start, Kinds, Regions, Root, Closed, Strikes}
+use Rattle.cd_parse.specs.declared.draft.Stage.TheVariants.{Kinds, Regions, Root, Strikes}
 use Rattle.cd_parse.specs.declared.draft.Level.{Level}
 use Rattle.cd_parse.specs.Draft.{DraftModel, no_draft, is_start, takes_strikes, parent_of, level_of, kind_name, four_kinds, changed, with_item, with_entry, add_item, add_entry, add_domain, named, named_in, open_group, close_group, close_domain, stage_behind}
 use Rattle.cd_parse.specs.Heads.{region_of, domain_named, entry_of}

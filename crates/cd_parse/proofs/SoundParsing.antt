@@ -5,7 +5,6 @@ use Rattle.cd_tree.specs.TreeModel.{IsTree}
 use Rattle.cd_tokens.specs.declared.sums.Variable.{Variable}
 use Rattle.cd_tokens.specs.Blocks.{Block}
 use Rattle.cd_parse.specs.declared.draft.Stage.{Stage}
-use Rattle.cd_parse.specs.declared.draft.Stage.TheVariants.{Start, Kinds, Regions, Root, Closed, Strikes}
 use Rattle.cd_parse.specs.declared.draft.Level.{Level}
 use Rattle.cd_parse.specs.Draft.{DraftModel, may_end}
 use Rattle.cd_parse.specs.Parsing.{draft_of, read}

@@ -1,6 +1,5 @@
 -- Each change that a statement makes keeps a draft sound.
 use Rattle.std.proofs.Common.{◌≡◌, ℕ, suc, ◌+◌, ◌<◌, ◌≤◌, true, List, [], ◌∷◌, Option, None, Some, Ok, length, subst, arith}
-use Rattle.std.proofs.lemmas.Bool.{not-true}
 use Rattle.cd_tree.specs.Limits.{items_limit, members_limit, depth_limit, entries_limit}
 use Rattle.cd_tree.specs.declared.domain.NodeId.{NodeId}
 use Rattle.cd_tree.specs.declared.domain.Domain.{Domain}

@@ -1,5 +1,5 @@
 -- What a draft says can be said by a text: the changes of a draft keep it so.
-use Rattle.std.proofs.Common.{◌≡◌, ◌≢◌, ℕ, ◌+◌, ◌<◌, ◌≤◌, ◌^◌, true, false, List, [], ◌∷◌, ◌++◌, Option, None, Some, codes, length, refl, ap, sym, ◌∙◌, subst, arith, All, inl, inr, bytes_eq, leb-true, append-nil, append_assoc}
+use Rattle.std.proofs.Common.{◌≡◌, ◌≢◌, ℕ, ◌+◌, ◌<◌, ◌≤◌, true, false, List, [], ◌∷◌, ◌++◌, Option, None, Some, codes, length, refl, ap, sym, ◌∙◌, subst, arith, All, inl, inr, bytes_eq, leb-true, append-nil, append_assoc}
 use Rattle.std.proofs.lemmas.Bool.{both_ways}
 use Rattle.std.proofs.lemmas.List.Elements.{All-nil}
 use Rattle.cd_tree.specs.declared.document.Region.{Region}
@@ -17,7 +17,7 @@ use Rattle.cd_parse.specs.declared.draft.Level.{Level}
 use Rattle.cd_parse.specs.Draft.{DraftModel, no_draft, takes_kinds, takes_regions, is_closed, may_end, stage_behind, takes_domains, parent_of, level_of, changed, with_item, with_entry, add_domain, named, named_in, kind_name, has_kind_named, has_region_named, four_kinds}
 use Rattle.cd_parse.specs.Heads.{region_of, domain_named, entry_of}
 use Rattle.cd_parse.specs.Operations.{fits}
-use Rattle.cd_parse.specs.WellRead.{IsReadPattern, IsReadHow, AreReadKinds, AreReadRegions, IsReadPath, FitsVersion}
+use Rattle.cd_parse.specs.WellRead.{IsReadPattern, IsReadHow, AreReadKinds, AreReadRegions, FitsVersion}
 use Rattle.cd_parse.specs.Sound.{IsStaged}
 use Rattle.cd_parse.proofs.Stages.{of_stage, never, in_root}
 use Rattle.cd_parse.proofs.SoundDomains.{bytes_same}
