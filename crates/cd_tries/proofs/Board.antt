@@ -1,28 +1,22 @@
 -- The board of the tests: what is loaded stays there, what its pass holds of it and of an entry, and that all comes back.
-use Rattle.std.proofs.Common.{◌≡◌, ℕ, zero, suc, ◌+◌, ◌-◌, ◌*◌, ◌/◌, ◌<◌, ◌≤◌, true, List, [], ◌∷◌, ◌++◌, length, Option, None, Some, IsSome, IsSomeAnd, All, arith, refl, ap, sym, subst, ◌∙◌, length-append}
+use Rattle.std.proofs.Common.{◌≡◌, ℕ, ◌+◌, ◌-◌, ◌<◌, ◌≤◌, true, List, [], ◌∷◌, ◌++◌, length, Some, arith, refl, ap, sym, subst, ◌∙◌, length-append}
 use Rattle.std.proofs.lemmas.List.{append-nil}
-use Rattle.std.proofs.lemmas.Bool.{cond-false, cond-true}
 use Rattle.cd_base.specs.declared.place.Place.{Place}
 use Rattle.cd_base.specs.declared.place.Range.{Range}
-use Rattle.cd_base.specs.Words.{Words, in_range, same_place}
-use Rattle.cd_base.proofs.BoolLemmas.{by_test}
+use Rattle.cd_base.specs.Words.{Words, in_range}
 use Rattle.cd_base.proofs.PlaceLemmas.{Inside, inside_from, inside_to}
-use Rattle.cd_tree.specs.declared.document.Fault.{Fault}
-use Rattle.cd_tree.specs.declared.document.Region.{Region}
 use Rattle.cd_tree.specs.declared.domain.Entry.{Entry}
 use Rattle.cd_tree.specs.declared.domain.How.{How}
 use Rattle.cd_tree.specs.declared.domain.How.TheVariants.{Copy, Refer, Regen}
-use Rattle.cd_tree.specs.declared.event.Event.{Event}
-use Rattle.cd_tree.specs.Meaning.{initial, blocks_of, blocks_kept, entry_need, in_entries}
-use Rattle.cd_field.specs.FieldModel.{FieldModel, IsPresent, ArePresent, loaded, told, wrote}
+use Rattle.cd_tree.specs.Meaning.{blocks_kept, entry_need}
+use Rattle.cd_field.specs.FieldModel.{FieldModel, ArePresent}
 use Rattle.cd_keep.specs.declared.keep_id.KeepId.{KeepId}
 use Rattle.cd_keep.specs.PassModel.{PassModel, HoldsNothing}
 use Rattle.cd_tries.specs.declared.keep.Keep.{Keep}
 use Rattle.cd_tries.specs.declared.keep.Pieces.{Pieces}
 use Rattle.cd_tries.specs.Board.{board, HasBoard, HasLink, HasPart, IsKept, IsOnBoard}
-use Rattle.cd_tries.specs.Fitting.{HasWords}
-use Rattle.cd_tries.specs.Keeping.{Cover, KeepFits, KeepsFit, HoldsThese, all_ids, keep_ids, times_in}
-use Rattle.cd_tries.specs.Preserving.{IsCopy, IsSaved, Spot, spot, told_all}
+use Rattle.cd_tries.specs.Keeping.{Cover, HoldsThese, all_ids, keep_ids, times_in}
+use Rattle.cd_tries.specs.Preserving.{IsCopy, IsSaved, Spot, spot}
 use Rattle.cd_tries.specs.Refilling.{gave_up_each, refilled_all}
 use Rattle.cd_tries.proofs.Holding.{with_holds, given_up_all, times_in-append}
 use Rattle.cd_tries.proofs.KeepsHeld.{HoldsMore, copies_hold, copy_fits, entry_fits, entry_holds, entry_few}

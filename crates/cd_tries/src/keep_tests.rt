@@ -1,6 +1,6 @@
 // Entries that are preserved, put back and given up: a table of them over one board of words, of which a pass keeps the whole
 // first, so that an entry may share its pieces.
-ghost use Rattle.std.specs.Prelude.{◌≡◌, ◌+◌, ◌<◌, ◌≤◌, true, IfOk, IsSome, IsTrue, OnOk, length};
+ghost use Rattle.std.specs.Prelude.{◌≡◌, ◌+◌, ◌<◌, true, IfOk, IsSome, IsTrue, OnOk, length};
 ghost use Rattle.cd_base.specs.Words.{in_range};
 ghost use Rattle.cd_tree.specs.Meaning.{initial};
 ghost use Rattle.cd_keep.specs.PassModel.{HoldsNothing};

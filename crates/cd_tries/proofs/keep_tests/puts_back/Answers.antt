@@ -1,5 +1,3 @@
-use Rattle.std.proofs.Common.{◌≡◌, ◌∷◌, []}
-use Rattle.cd_field.specs.FieldModel.{FieldModel}
 use Rattle.cd_tries.specs.Board.{HasBoard}
 use Rattle.cd_tries.proofs.Board.{board_refilled, part_present}
 use Rattle.cd_tries.proofs.keep_tests.puts_back.Goals as goal
