@@ -6,7 +6,7 @@ use Rattle.cd_base.specs.declared.place.Range.{Range}
 use Rattle.cd_base.specs.declared.pattern.Pattern.{Pattern}
 use Rattle.cd_base.specs.Words.{Words, in_range, pattern_word}
 use Rattle.cd_tree.specs.Legal.{GivesWords, Differs, DiffersFirst}
-use Rattle.cd_tries.proofs.Ranges.{Inside, inside_from, inside_to}
+use Rattle.cd_base.proofs.PlaceLemmas.{Inside, inside_from, inside_to}
 
 abbrev pub place_in : Range → ℕ → Place
 place_in r i = record { region = r.region; index = i }

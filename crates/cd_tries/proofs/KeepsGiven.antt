@@ -23,7 +23,7 @@ use Rattle.cd_tries.specs.Preserving.{SavedAs, SavedAll, Spot, met, first_met, c
 use Rattle.cd_tries.proofs.Cutting.{stays_covered}
 use Rattle.cd_tries.proofs.KeepsHeld.{entry_fits, MetNumbers, met_numbers}
 use Rattle.cd_tries.proofs.Preserved.{Spent, spent_by, links_stay}
-use Rattle.cd_tries.proofs.Ranges.{Inside, inside_from}
+use Rattle.cd_base.proofs.PlaceLemmas.{Inside, inside_from}
 use Rattle.cd_tries.proofs.Rows.{copy_gives, words_stay, text_at, text_part, part_at}
 
 -- the pieces that meet a range give the words of all pieces there

@@ -43,7 +43,7 @@ holds_none_more p q is =
     let A : PassModel → Type 0 = λ v. HoldsMore [] p v in
     subst A (sym is) (record { each = λ id. omega arith; held = omega arith; room = omega arith; store = refl; most = refl })
 
-copies_hold : (w : Words) (r : Range) (k : ℕ) (ids : List KeepId) (p q : PassModel) → KeepsFrom w r k ids p q → HoldsMore ids p q
+pub copies_hold : (w : Words) (r : Range) (k : ℕ) (ids : List KeepId) (p q : PassModel) → KeepsFrom w r k ids p q → HoldsMore ids p q
 copies_hold w r k [] p q h = holds_none_more p q h
 copies_hold w r k (one ∷ ids) p q h =
     let now : PassModel = kept p one (words_in w (nth_piece r k)) in
@@ -63,7 +63,7 @@ shared_hold ids p q is =
     let A : PassModel → Type 0 = λ v. HoldsMore ids p v in
     subst A (sym (is ∙ shared_all p ids)) (record { each = λ id. refl; held = refl; room = refl; store = refl; most = refl })
 
-entry_holds : (s : Spot) (how : How) (keep : Keep) (events : List Event) (p q : PassModel) → SavedAs s how keep events p q
+pub entry_holds : (s : Spot) (how : How) (keep : Keep) (events : List Event) (p q : PassModel) → SavedAs s how keep events p q
     → HoldsMore (keep_ids keep) p q
 entry_holds s Copy (by.Copied pieces) events p q h = copies_hold s.words s.range 0 pieces.ids p q h.0.keeps
 entry_holds s Copy (by.Shared pieces) events p q h = absurd h
@@ -78,7 +78,7 @@ entry_holds s (Regen pattern) (by.Copied pieces) events p q h = copies_hold s.wo
 entry_holds s (Regen pattern) (by.Shared pieces) events p q h = absurd h
 entry_holds s (Regen pattern) by.Pattern events p q h = holds_none_more p q h.1
 
-entry_few : (s : Spot) (how : How) (keep : Keep) (events : List Event) (p q : PassModel) → SavedAs s how keep events p q
+pub entry_few : (s : Spot) (how : How) (keep : Keep) (events : List Event) (p q : PassModel) → SavedAs s how keep events p q
     → length (keep_ids keep) ≤ blocks_kept how s.range
 entry_few s Copy (by.Copied pieces) events p q h = omega (arith, h.0.count)
 entry_few s Copy (by.Shared pieces) events p q h = absurd h

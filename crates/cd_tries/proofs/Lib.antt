@@ -19,3 +19,4 @@ pub mod KeepsLegal
 pub mod KeepsHeld
 pub mod KeepsGiven
 pub mod Sample
+pub mod Board

@@ -21,7 +21,7 @@ use Rattle.cd_tries.specs.KeepLaws.{KnowsMore}
 use Rattle.cd_tries.specs.Preserving.{nth_piece, KeepsFrom, IsCopy}
 use Rattle.cd_tries.proofs.Cutting.{found, copies_know, same_text}
 use Rattle.cd_tries.proofs.Holding.{known_itself}
-use Rattle.cd_tries.proofs.Ranges.{Inside, inside_from}
+use Rattle.cd_base.proofs.PlaceLemmas.{Inside, inside_from}
 
 -- ---- parts of pieces
 

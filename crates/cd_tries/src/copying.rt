@@ -10,6 +10,7 @@ use crate::Pieces;
 use cd_base::{Items, NoMemory, Range};
 use cd_field::Field;
 use cd_keep::{KeepId, Pass};
+use cd_tree::limits::BLOCK_WORDS;
 use std::alloc::Global;
 use std::sync::Wait;
 
@@ -42,7 +43,7 @@ fn count_pieces(range: Range) -> u32
     requires { IsFull range }
     ensures { result ≡ blocks_of range }
 {
-    (range.high - range.low - 1) / 64 + 1
+    (range.high - range.low - 1) / BLOCK_WORDS + 1
 }
 
 // The k-th piece of a range.
@@ -52,11 +53,11 @@ fn piece_of(range: Range, k: u32) -> Range
     ensures some { result.low < result.high }
     ensures few { length_of result ≤ 64 }
 {
-    let low = range.low + 64 * k;
+    let low = range.low + BLOCK_WORDS * k;
     Range {
         region: range.region,
         low,
-        high: low + (range.high - low).min(64),
+        high: low + (range.high - low).min(BLOCK_WORDS),
     }
 }
 
@@ -74,7 +75,7 @@ fn copy_piece<F: Field, P: Pass, R: Wait>(
     ensures new { IfOk result (λ id. (P.model pass.old).known id ≡ None) }
     ensures kept { IfOk result (λ id. P.model pass.new ≡ kept (P.model pass.old) id (words_in (F.model field.now).words piece)) }
 {
-    let mut buffer = [0u64; 64];
+    let mut buffer = [0u64; BLOCK_WORDS as usize];
     let words = &mut buffer[..(piece.high - piece.low) as usize];
     field.read_run(piece, words);
     pass.keep(rt, words)

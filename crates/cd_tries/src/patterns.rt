@@ -1,5 +1,5 @@
 // Patterns: whether one gives the words of a range.
-ghost use Rattle.std.specs.Prelude.{◌≡◌, ◌∷◌, [], MatchOption};
+ghost use Rattle.std.specs.Prelude.{◌∷◌, [], MatchOption};
 ghost use Rattle.cd_base.specs.Words.{pattern_word};
 ghost use Rattle.cd_tree.specs.Legal.{GivesWords, Differs, DiffersFirst};
 ghost use Rattle.cd_field.specs.FieldModel.{ArePresent};

@@ -1,6 +1,6 @@
 // The points of a try, each followed by its item.
-ghost use Rattle.std.specs.Prelude.{◌≡◌, ◌+◌, ◌<◌, ◌≤◌, [], drop, length, All, IfOk, OnOk, MatchOption};
-ghost use Rattle.cd_field.specs.FieldModel.{IsPresent, hits_at, reached_point};
+ghost use Rattle.std.specs.Prelude.{◌≡◌, ◌+◌, ◌<◌, ◌≤◌, [], drop, length, IfOk, OnOk, MatchOption};
+ghost use Rattle.cd_field.specs.FieldModel.{reached_point};
 ghost use Rattle.cd_tries.specs.Fitting.{CanRun};
 ghost use Rattle.cd_tries.specs.Running.{is_quiet, run_to, run_ends};
 

@@ -15,6 +15,7 @@ use crate::{Keep, Pieces};
 use cd_base::{NoMemory, Pattern, Place, Range};
 use cd_field::Field;
 use cd_keep::{KeepId, Pass};
+use cd_tree::limits::BLOCK_WORDS;
 use cd_tree::{Entry, How};
 
 /// Puts the entries of a domain back from its keeps, in order, and tells the machine of each. It costs what the words cost;
@@ -112,8 +113,8 @@ fn refill_piece<F: Field, P: Pass>(
     ensures pass { P.model pass.new ≡ P.model pass.old }
 {
     let end = pieces.end;
-    let start = pieces.begin + 64 * k;
-    let count = (end - start).min(64);
+    let start = pieces.begin + BLOCK_WORDS * k;
+    let count = (end - start).min(BLOCK_WORDS);
     let part = Range {
         region: range.region,
         low: range.low.max(start),
@@ -142,7 +143,7 @@ fn refill_from<F: Field, P: Pass>(
     ensures field { F.model field.new ≡ put_words (words_at start (words_of (P.model pass.old) id)) range (F.model field.old) }
     ensures pass { P.model pass.new ≡ P.model pass.old }
 {
-    let mut buffer = [0u64; 64];
+    let mut buffer = [0u64; BLOCK_WORDS as usize];
     let words = &mut buffer[..count as usize];
     pass.fetch(id, words);
     field.refill_run(

@@ -9,6 +9,7 @@ use crate::Pieces;
 use crate::giving_up::give_up_first;
 use cd_base::{Items, NoMemory, Range};
 use cd_keep::{GoneNote, KeepId, Pass};
+use cd_tree::limits::BLOCK_WORDS;
 use std::alloc::Global;
 
 /// The pieces of a link that meet a range which they cover.
@@ -20,13 +21,13 @@ pub(crate) fn pieces_met(alloc: Global, link: &Pieces, range: Range) -> Result<P
     ensures { IfOk result (λ pieces. pieces ≡ met link.now range) }
 {
     let (begin, end) = (link.begin, link.end);
-    let first = (range.low - begin) / 64;
-    let last = (range.high - 1 - begin) / 64;
+    let first = (range.low - begin) / BLOCK_WORDS;
+    let last = (range.high - 1 - begin) / BLOCK_WORDS;
     let ids = &link.ids.items()[first as usize..last as usize + 1];
-    let low = begin + 64 * last;
+    let low = begin + BLOCK_WORDS * last;
     Ok(Pieces {
-        begin: begin + 64 * first,
-        end: low + (end - low).min(64),
+        begin: begin + BLOCK_WORDS * first,
+        end: low + (end - low).min(BLOCK_WORDS),
         ids: Items::of(Vec::from_slice(alloc, ids)?),
     })
 }

@@ -1,10 +1,7 @@
 // Tries on the shipped machine: a table of scripts, and how far the tries of a small domain come under each.
-ghost use Rattle.std.specs.Prelude.{◌≡◌, ◌≤◌, ◌∷◌, [], length, IfOk, OnOk};
+ghost use Rattle.std.specs.Prelude.{◌≡◌, IfOk, OnOk};
 ghost use Rattle.cd_tree.specs.Meaning.{initial};
-ghost use Rattle.cd_field.specs.FieldModel.{IsPresent};
 ghost use Rattle.cd_keep.specs.declared.keep_id.KeepId.{KeepId as Id};
-ghost use Rattle.cd_tries.specs.Fitting.{ArePresentIn, CanTry};
-ghost use Rattle.cd_tries.specs.Running.{means};
 ghost use Rattle.cd_tries.specs.Sample.{sample, sample_keeps, sample_pass, IsSample, HasSample, SampleIsHere, StrikesSample};
 
 use crate::{Attempt, Course, Keep, Pieces, Stop, go_on, try_again};
