@@ -1,9 +1,11 @@
 //! The lines of statements: kinds, regions, the heads of domains, entries and strikes.
 ghost use Rattle.std.specs.Prelude.{◌≡◌, ◌≤◌, ◌++◌, [], ◌∷◌, length, IfOk, OnOk, string_bytes, decimal};
 ghost use Rattle.cd_tree.specs.Limits.{kinds_limit};
-ghost use Rattle.cd_print.specs.Canonical.{line, kind_token, place_token, kind_statement, region_statement, domain_statement, entry_statement, strike_statement};
+ghost use Rattle.cd_tokens.specs.Written.{kind_token, place_token};
+ghost use Rattle.cd_print.specs.Canonical.{line, kind_statement, region_statement, domain_statement, entry_statement, strike_statement};
 
-use crate::tokens::{add_kinds, how_end, kind_name, pattern_end, place_text, range_text};
+use crate::tokens::{how_end, pattern_end, range_text};
+use cd_tokens::{kind_name, kinds_text, place_text};
 use cd_tree::{Domain, Entry, KindName, RawFault, Region};
 use std::alloc::{AllocError, Global};
 
@@ -41,8 +43,7 @@ pub fn add_head(
 {
     let name = domain.name.as_str();
     let retry = domain.retry;
-    let mut names = String::new(alloc);
-    add_kinds(kinds, domain.detects, &mut names)?;
+    let names = kinds_text(alloc, kinds, domain.detects)?;
     text.push_str(&format!(in alloc; "domain {name} retry {retry} detects {names}\n")?)
 }
 
