@@ -2,17 +2,21 @@
 ghost use Rattle.std.specs.Prelude.{◌≡◌, ◌++◌, IfOk, string_bytes, codes};
 ghost use Rattle.cd_print.specs.Canonical.{line, range_token, how_tokens, pattern_tokens};
 
+use crate::printer::Printer;
 use cd_base::{Pattern, Range};
 use cd_tokens::region_name;
-use cd_tree::{How, Region};
+use cd_tree::How;
 use std::alloc::{AllocError, Global};
 
-/// A range by its region's name and its bounds.
-pub fn range_text(alloc: Global, regions: &[Region], range: Range) -> Result<String, AllocError>
-    ensures { IfOk result (λ text. string_bytes text ≡ range_token regions.now range) }
-{
-    let name = region_name(regions, range.region);
-    format!(in alloc; "{name}[{}..{}]", range.low, range.high)
+impl Printer<'_> {
+    /// A range by its region's name and its bounds.
+    pub fn range_text(&self, range: Range) -> Result<String, AllocError>
+        ensures { IfOk result (λ text. string_bytes text ≡ range_token self.now.document.now.regions range) }
+    {
+        let alloc = self.alloc;
+        let name = region_name(self.document.regions.items(), range.region);
+        format!(in alloc; "{name}[{}..{}]", range.low, range.high)
+    }
 }
 
 /// The tokens of a pattern as the end of a line, with its line feed.
