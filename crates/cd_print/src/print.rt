@@ -1,7 +1,6 @@
 //! The text of a document, part by part.
-ghost use Rattle.std.specs.Prelude.{◌≡◌, ◌++◌, length, IfOk, OnOk, string_bytes};
+ghost use Rattle.std.specs.Prelude.{◌≡◌, ◌++◌, IfOk, OnOk, string_bytes};
 ghost use Rattle.cd_base.specs.Ends.{WriteAll};
-ghost use Rattle.cd_tree.specs.TreeModel.{TreeModel};
 ghost use Rattle.cd_print.specs.Canonical.{canonical, lines, kind_statements, fault_statements};
 
 use crate::printer::Printer;
