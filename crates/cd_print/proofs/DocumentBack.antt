@@ -9,7 +9,8 @@ use Rattle.cd_tree.specs.declared.kinds.Kind.{Kind}
 use Rattle.cd_tree.specs.declared.kinds.KindName.{KindName}
 use Rattle.cd_tokens.specs.Kinds.{kind}
 use Rattle.cd_parse.specs.Draft.{DraftModel, takes_kinds, takes_regions, takes_strikes, has_kind_named}
-use Rattle.cd_print.specs.Canonical.{kind_token, kind_statement, region_statement, strike_statement}
+use Rattle.cd_tokens.specs.Written.{kind_token}
+use Rattle.cd_print.specs.Canonical.{kind_statement, region_statement, strike_statement}
 use Rattle.cd_parse.specs.WellRead.{AreReadKinds, AreReadRegions, IsFoundKind, AreReadFaults}
 use Rattle.cd_print.proofs.KindsBack.{kind_read}
 use Rattle.cd_print.proofs.HeadsBack.{in_first, kind_done, region_done, strike_done}

@@ -29,7 +29,8 @@ use Rattle.cd_parse.specs.Ranges.{range_in, place_in}
 use Rattle.cd_parse.specs.Heads.{begun, cd_in, with_kind_named, kind_in, name_fits, words_fit, with_region, region_of, with_domain, room_for_domain, domain_named, domain_in, entries_of, entry_of, with_entry_of, how_in, preserve_in, group_in, faults_in, fault_of, with_fault, time_in, damage_in, strike_in}
 use Rattle.cd_parse.specs.Heads as heads
 use Rattle.cd_parse.specs.Statements.{statement, statement_in}
-use Rattle.cd_print.specs.Canonical.{range_token, place_token, kind_token, kinds_token, pattern_tokens, kind_statement, region_statement, domain_statement, how_tokens, entry_statement, strike_statement}
+use Rattle.cd_tokens.specs.Written.{place_token, kind_token, kinds_token}
+use Rattle.cd_print.specs.Canonical.{range_token, pattern_tokens, kind_statement, region_statement, domain_statement, how_tokens, entry_statement, strike_statement}
 use Rattle.cd_parse.specs.WellRead.{IsReadRange, IsReadPattern, IsReadHow, IsReadPath, IsReadPlace, AreReadKinds}
 use Rattle.cd_print.proofs.NumbersBack.{number_read}
 use Rattle.cd_print.proofs.NamesBack.{name_read, range_read, place_read, pattern_read}

@@ -19,7 +19,7 @@ use Rattle.cd_tokens.specs.Sums.{is_name_byte, is_base}
 use Rattle.cd_tokens.specs.Names.{name, is_slash, slashed, one_more_name, path_on, path}
 use Rattle.cd_tokens.specs.Kinds.{kind_from, kind, one_more_kind, kinds_on, is_comma, kind_set}
 use Rattle.cd_parse.specs.Draft.{has_kind_named}
-use Rattle.cd_print.specs.Canonical.{kinds_in, names_token, kinds_token}
+use Rattle.cd_tokens.specs.Written.{kinds_in, names_token, kinds_token}
 use Rattle.cd_parse.specs.WellRead.{AreReadKinds, AreBases, IsReadPath}
 use Rattle.cd_print.proofs.Cuts.{chosen, otherwise, No, cut_at, uncut}
 use Rattle.cd_print.proofs.NamesBack.{base_named, base_some, named_pass_not, name_read, same_bytes}

@@ -22,7 +22,8 @@ use Rattle.cd_tokens.specs.Names.{is_colon, name_at, name}
 use Rattle.cd_tokens.specs.Kinds.{pattern}
 use Rattle.cd_parse.specs.Draft.{has_region_named}
 use Rattle.cd_parse.specs.Ranges.{whole, region_from, region_named, region_in, some_words, one_place, is_opening, is_closing, before_closing, bracketed, index_in, part_at, part_in, range_at, range_in, place_at, place_in}
-use Rattle.cd_print.specs.Canonical.{region_token, range_token, place_token, pattern_tokens}
+use Rattle.cd_tokens.specs.Written.{region_token, place_token}
+use Rattle.cd_print.specs.Canonical.{range_token, pattern_tokens}
 use Rattle.cd_parse.specs.WellRead.{IsFound, IsReadRange, IsReadPlace, IsReadPattern}
 use Rattle.cd_print.proofs.Cuts.{chosen, otherwise, No, no_both, found_at, found_nowhere, take_before, drop_behind}
 use Rattle.cd_print.proofs.LinesBack.{Plain}

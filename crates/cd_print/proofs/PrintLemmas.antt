@@ -1,18 +1,12 @@
 -- Lemmas on texts that are made line by line, and on the statements of a program by its list of domains.
-use Rattle.std.proofs.Common.{◌≡◌, ℕ, Bool, true, false, List, [], ◌∷◌, ◌++◌, Option, None, Some, if◌then◌else◌, codes, refl, sym, ap, ◌∙◌, append_assoc, append-nil, Result, Ok, Err, OnOk, is_ok}
-use Rattle.std.specs.List.{flat_map}
+use Rattle.std.proofs.Common.{◌≡◌, ℕ, List, [], ◌∷◌, ◌++◌, Option, None, Some, if◌then◌else◌, codes, refl, sym, ap, ◌∙◌, append_assoc, append-nil, Result, Ok, Err, OnOk, is_ok}
 use Rattle.cd_tree.specs.declared.domain.NodeId.{NodeId}
 use Rattle.cd_tree.specs.declared.domain.Item.{Item}
 use Rattle.cd_tree.specs.declared.domain.Item.TheVariants.{Run, Group}
 use Rattle.cd_tree.specs.declared.document.Region.{Region}
 use Rattle.cd_tree.specs.declared.kinds.KindName.{KindName}
 use Rattle.cd_tree.specs.Domains.{Node, Members, no_more, put_first, members_by, body_by}
-use Rattle.cd_print.specs.Canonical.{Statement, line, lines, names_token, grouped, body_statements, member_statements, node_statements}
-
--- what is still to come of the names of some kinds, where none was written yet or some were
-abbrev pub names_left : Bool → List KindName → List ℕ
-names_left true kinds = names_token kinds
-names_left false kinds = flat_map (λ kind. codes "," ++ kind.name) kinds
+use Rattle.cd_print.specs.Canonical.{Statement, line, lines, grouped, body_statements, member_statements, node_statements}
 
 -- the lines of two lists of statements, one after another
 pub lines_of_both : (front back : List Statement) → lines (front ++ back) ≡ lines front ++ lines back

@@ -6,14 +6,14 @@ use Rattle.cd_tree.specs.declared.domain.NodeId.{NodeId}
 use Rattle.cd_tree.specs.declared.domain.Item.{Item}
 use Rattle.cd_tree.specs.declared.domain.Item.TheVariants.{Run, Group}
 use Rattle.cd_tree.specs.declared.domain.Domain.{Domain}
+use Rattle.cd_tree.specs.declared.domain.Entry.{Entry}
 use Rattle.cd_tree.specs.declared.document.Region.{Region}
-use Rattle.cd_tree.specs.declared.document.RawFault.{RawFault}
 use Rattle.cd_tree.specs.declared.document.Document.{Document}
 use Rattle.cd_tree.specs.declared.kinds.KindName.{KindName}
 use Rattle.cd_tree.specs.Laws.{NestedViewFollows}
 use Rattle.cd_tree.specs.TreeModel.{TreeModel, IsTree, EachFits, FitsDomain, FitsItems, NamesChildren}
 use Rattle.cd_tree.specs.Domains.{Node, node, Members, no_more, member, put_first, members_by, body_by, node_of, root_of}
-use Rattle.cd_print.specs.Canonical.{Statement, line, lines, canonical, kind_statements, region_statement, fault_statements, end_statement, grouped, body_statements, member_statements, node_statements}
+use Rattle.cd_print.specs.Canonical.{Statement, line, lines, canonical, kind_statements, region_statement, domain_statement, entry_statement, fault_statements, end_statement, grouped, body_statements, member_statements, node_statements}
 use Rattle.cd_print.proofs.PrintLemmas.{lines_of_both}
 
 -- ---- what a program is, at one of its domains
@@ -126,39 +126,61 @@ five_pieces : (a b c d e : List ℕ) → a ++ b ++ c ++ d ++ e ≡ a ++ (b ++ (c
 five_pieces a b c d e =
     append_assoc (a ++ b ++ c) d e ∙ append_assoc (a ++ b) c (d ++ e) ∙ append_assoc a b (c ++ (d ++ e))
 
+-- the text of a domain, piece by piece
+pub domain_text : (regions : List Region) (kinds : List KindName) (find : NodeId → Option Node) (id : NodeId) (domain : Domain) (entries : List Entry) (items : List Item)
+    (text head listed all : List ℕ)
+    → find id ≡ Some (node id domain (body_by find domain.items)) → entries ≡ domain.entries → items ≡ domain.items
+    → head ≡ text ++ line (domain_statement kinds domain)
+    → listed ≡ head ++ lines (map (entry_statement regions) entries)
+    → all ≡ listed ++ lines (body_statements regions kinds (body_by find items))
+    → all ++ line end_statement ≡ text ++ lines (member_statements regions kinds (put_first (find id) no_more))
+domain_text regions kinds find id domain entries items text head listed all view e i at_head at_listed at_all =
+    let first : List ℕ = line (domain_statement kinds domain) in
+    let es : List Statement = map (entry_statement regions) domain.entries in
+    let bs : List Statement = body_statements regions kinds (body_by find domain.items) in
+    let whole : lines (member_statements regions kinds (put_first (find id) no_more)) ≡ first ++ lines (es ++ (bs ++ end_statement ∷ [])) =
+    ap (λ (o : Option Node). lines (member_statements regions kinds (put_first o no_more))) view
+    ∙ ap lines (append-nil (node_statements regions kinds (node id domain (body_by find domain.items)))) in
+    let split : lines (es ++ (bs ++ end_statement ∷ [])) ≡ lines es ++ (lines bs ++ line end_statement) =
+    lines_of_both es (bs ++ end_statement ∷ [])
+    ∙ ap (λ (x : List ℕ). lines es ++ x)
+    (lines_of_both bs (end_statement ∷ []) ∙ ap (λ (x : List ℕ). lines bs ++ x) (append-nil (line end_statement))) in
+    let behind_listed : listed ≡ text ++ first ++ lines es =
+    at_listed ∙ ap (λ (x : List Entry). head ++ lines (map (entry_statement regions) x)) e ∙ ap (λ (x : List ℕ). x ++ lines es) at_head in
+    let behind_all : all ≡ text ++ first ++ lines es ++ lines bs =
+    at_all ∙ ap (λ (x : List Item). listed ++ lines (body_statements regions kinds (body_by find x))) i
+    ∙ ap (λ (x : List ℕ). x ++ lines bs) behind_listed in
+    ap (λ (x : List ℕ). x ++ line end_statement) behind_all
+    ∙ five_pieces text first (lines es) (lines bs) (line end_statement)
+    ∙ ap (λ (x : List ℕ). text ++ (first ++ x)) (sym split)
+    ∙ ap (λ (x : List ℕ). text ++ x) (sym whole)
+
 headed : (version : ℕ) (rest : List ℕ)
     → (codes "cd " ++ (decimal version ++ codes "\n")) ++ rest ≡ line (codes "cd" ∷ decimal version ∷ []) ++ rest
 headed version rest = refl
 
 -- the text of a document, piece by piece
-pub document_text : (document : Document) (regions : List Region) (kinds named : List KindName) (faults : List RawFault) (head one two three four : List ℕ)
-    → 0 < length document.tree.domains → regions ≡ document.regions → kinds ≡ document.tree.kinds → named ≡ document.tree.kinds
-    → faults ≡ document.faults
+pub document_text : (document : Document) (regions : List Region) (head one two three four : List ℕ)
+    → 0 < length document.tree.domains → regions ≡ document.regions
     → head ≡ codes "cd " ++ (decimal document.version ++ codes "\n")
-    → one ≡ head ++ lines (kind_statements document.version kinds)
+    → one ≡ head ++ lines (kind_statements document.version document.tree.kinds)
     → two ≡ one ++ lines (map region_statement regions)
-    → three ≡ two ++ lines (member_statements regions document.tree.kinds (members_by (node_of document.tree.domains) (record { 0 = 0 } ∷ [])))
-    → four ≡ three ++ lines (fault_statements regions named faults)
+    → three ≡ two ++ lines (member_statements document.regions document.tree.kinds (members_by (node_of document.tree.domains) (record { 0 = 0 } ∷ [])))
+    → four ≡ three ++ lines (fault_statements document.regions document.tree.kinds document.faults)
     → four ≡ canonical document
-document_text document regions kinds named faults head one two three four some r k n f at_head at_one at_two at_three at_four =
+document_text document regions head one two three four some r at_head at_one at_two at_three at_four =
     let ks : List Statement = kind_statements document.version document.tree.kinds in
     let rs : List Statement = map region_statement document.regions in
     let ns : List Statement = node_statements document.regions document.tree.kinds (root_of document.tree.domains) in
     let fs : List Statement = fault_statements document.regions document.tree.kinds document.faults in
-    let behind_one : one ≡ head ++ lines ks = at_one ∙ ap (λ (x : List KindName). head ++ lines (kind_statements document.version x)) k in
     let behind_two : two ≡ one ++ lines rs = at_two ∙ ap (λ (x : List Region). one ++ lines (map region_statement x)) r in
     let behind_three : three ≡ two ++ lines ns =
-    at_three ∙ ap (λ (x : List Region). two ++ lines (member_statements x document.tree.kinds (members_by (node_of document.tree.domains) (record { 0 = 0 } ∷ [])))) r
-    ∙ ap (λ (x : List Statement). two ++ lines x) (root_by_number document.regions document.tree.kinds document.tree.domains some) in
-    let behind_four : four ≡ three ++ lines fs =
-    at_four ∙ ap (λ (x : List Region). three ++ lines (fault_statements x named faults)) r
-    ∙ ap (λ (x : List KindName). three ++ lines (fault_statements document.regions x faults)) n
-    ∙ ap (λ (x : List RawFault). three ++ lines (fault_statements document.regions document.tree.kinds x)) f in
+    at_three ∙ ap (λ (x : List Statement). two ++ lines x) (root_by_number document.regions document.tree.kinds document.tree.domains some) in
     let split : lines (ks ++ (rs ++ (ns ++ fs))) ≡ lines ks ++ (lines rs ++ (lines ns ++ lines fs)) =
     lines_of_both ks (rs ++ (ns ++ fs))
     ∙ ap (λ (x : List ℕ). lines ks ++ x) (lines_of_both rs (ns ++ fs) ∙ ap (λ (x : List ℕ). lines rs ++ x) (lines_of_both ns fs)) in
-    behind_four
-    ∙ ap (λ (x : List ℕ). x ++ lines fs) (behind_three ∙ ap (λ (x : List ℕ). x ++ lines ns) (behind_two ∙ ap (λ (x : List ℕ). x ++ lines rs) behind_one))
+    at_four
+    ∙ ap (λ (x : List ℕ). x ++ lines fs) (behind_three ∙ ap (λ (x : List ℕ). x ++ lines ns) (behind_two ∙ ap (λ (x : List ℕ). x ++ lines rs) at_one))
     ∙ five_pieces head (lines ks) (lines rs) (lines ns) (lines fs)
     ∙ ap (λ (x : List ℕ). head ++ x) (sym split)
     ∙ ap (λ (x : List ℕ). x ++ lines (ks ++ (rs ++ (ns ++ fs)))) at_head

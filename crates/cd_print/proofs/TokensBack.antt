@@ -20,7 +20,8 @@ use Rattle.cd_tree.specs.declared.operation.Op.{Op}
 use Rattle.cd_tree.specs.declared.operation.Op.TheVariants.{Fill, Copy, Add, Sub, Mul, Axpy, Scan, Sum, Dot, Max, Stencil, Spmv}
 use Rattle.cd_tree.specs.Domains.{Node, node, Body, stop, run, group, Members, no_more, member}
 use Rattle.cd_tokens.specs.Sums.{is_base}
-use Rattle.cd_print.specs.Canonical.{Statement, range_token, place_token, region_token, kind_token, names_token, kinds_in, kinds_token, pattern_tokens, how_tokens, kind_statement, region_statement, entry_statement, op_statement, strike_statement, fault_statements, end_statement, grouped, node_statements, body_statements, member_statements}
+use Rattle.cd_tokens.specs.Written.{place_token, region_token, kind_token, names_token, kinds_in, kinds_token}
+use Rattle.cd_print.specs.Canonical.{Statement, range_token, pattern_tokens, how_tokens, kind_statement, region_statement, entry_statement, op_statement, strike_statement, fault_statements, end_statement, grouped, node_statements, body_statements, member_statements}
 use Rattle.cd_parse.specs.WellRead.{IsFound, IsReadRange, IsReadPlace, IsReadPattern, IsReadHow, IsReadOp, AreReadEntries, AreReadKinds, AreReadRegions, AreBases, IsReadPath, IsFoundKind, AreReadFaults}
 use Rattle.cd_print.proofs.LinesBack.{Plain, plain_both, AreTokens, IsStatement, AreStatements, statements_both}
 use Rattle.cd_print.proofs.NumbersBack.{decimal_some, decimal_digits, digits_plain}

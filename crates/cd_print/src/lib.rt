@@ -10,8 +10,10 @@
 
 pub mod laws;
 mod lift;
+mod lines;
 mod operations;
 mod print;
+mod printer;
 mod program;
 mod statements;
 mod tokens;

@@ -19,13 +19,14 @@ use Rattle.cd_tree.specs.declared.document.Region.{Region}
 use Rattle.cd_tree.specs.declared.kinds.KindName.{KindName}
 use Rattle.cd_tree.specs.declared.event.Event.{Event}
 use Rattle.cd_tree.specs.declared.event.Event.TheVariants.{Fell, Lapsed}
-use Rattle.cd_report.specs.Texts.{line, place_text}
+use Rattle.cd_tokens.specs.Written.{place_token}
+use Rattle.cd_report.specs.Texts.{line}
 use Rattle.cd_report.specs.Records.{event_text, event_line, events_text}
 use Rattle.cd_report.proofs.TextLemmas.{next_piece, nine_pieces, eleven_pieces}
 
 -- the lines of the events, made of their pieces
 pub fell_line : (kinds : List KindName) (regions : List Region) (event : Event) (node : NodeId) (entry : ℕ) (p : Place) (wanted found : ℕ) (place made : List ℕ)
-    → event ≡ Fell node entry p wanted found → place ≡ place_text regions p
+    → event ≡ Fell node entry p wanted found → place ≡ place_token regions p
     → made ≡ codes "fell " ++ (decimal node.0 ++ (codes " " ++ (decimal entry ++ (codes " " ++ (place ++ (codes " wanted " ++ (decimal wanted ++ (codes " found " ++ (decimal found ++ codes "\n")))))))))
     → made ≡ event_line kinds regions event
 fell_line kinds regions event node entry p wanted found place made is w e =

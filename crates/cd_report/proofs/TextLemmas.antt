@@ -1,11 +1,11 @@
 -- Lemmas on texts that are made piece by piece.
-use Rattle.std.proofs.Common.{◌≡◌, ℕ, suc, ◌+◌, ◌-◌, ◌*◌, ◌%◌, ◌^◌, ◌<◌, ◌≤◌, Bool, true, false, List, [], ◌∷◌, ◌++◌, Option, None, Some, length, map, take, drop, sum, slice_get, if◌then◌else◌, codes, refl, sym, ap, ◌∙◌, arith, append_assoc, length-append, unwrap_or}
+use Rattle.std.proofs.Common.{◌≡◌, ℕ, suc, ◌+◌, ◌-◌, ◌*◌, ◌%◌, ◌^◌, ◌<◌, ◌≤◌, List, [], ◌∷◌, ◌++◌, Option, None, Some, length, map, take, drop, sum, slice_get, codes, refl, sym, ap, ◌∙◌, arith, append_assoc, length-append, unwrap_or}
 use Rattle.std.proofs.Math.Nat.{mod-add-mod, add-mod-mod}
 use Rattle.std.proofs.lemmas.List.{drop_more}
 use Rattle.std.proofs.lemmas.List.Sums.{sum_by-cons, sum_by_more, sum_by_more_le}
 use Rattle.std.proofs.lemmas.Option.{slice_get_within, slice_get_past, get_or_from_slice_get}
 use Rattle.std.specs.Fmt.{decimal}
-use Rattle.std.specs.List.{flat_map, join_with_byte, last_or}
+use Rattle.std.specs.List.{join_with_byte, last_or}
 use Rattle.cd_base.specs.declared.place.Place.{Place}
 use Rattle.cd_base.specs.Words.{Words, word_at, word_of}
 use Rattle.cd_tree.specs.declared.domain.NodeId.{NodeId}
@@ -13,10 +13,9 @@ use Rattle.cd_tree.specs.declared.domain.Domain.{Domain}
 use Rattle.cd_tree.specs.Scripts.{path_under, paths_from}
 use Rattle.cd_tree.specs.Paths.{name_of, path_text_of}
 use Rattle.cd_tree.specs.declared.document.Document.{Document}
-use Rattle.cd_tree.specs.declared.kinds.KindName.{KindName}
 use Rattle.cd_tree.specs.declared.refusal.Refusal.{Refusal}
 use Rattle.cd_tree.specs.declared.refusal.Refusal.TheVariants.{Overlap, Uncovered, NoTarget, Stale}
-use Rattle.cd_report.specs.Texts.{words_from, listed, weighted, names_text, begins_line, begins_lines, path_in, place_in, refusal_text}
+use Rattle.cd_report.specs.Texts.{words_from, listed, weighted, begins_line, begins_lines, path_in, place_in, refusal_text}
 
 -- a text with one piece more, and what is still to come
 pub next_piece : (before text next piece rest all : List ℕ) → text ++ all ≡ before → next ≡ text ++ piece → all ≡ piece ++ rest → next ++ rest ≡ before
@@ -92,16 +91,6 @@ begins_next domains k count begins now next all here h e =
     ∙ ap (λ (n : ℕ). n ∷ rest) (get_or_from_slice_get begins k count count here) in
     next_piece all now next (begins_line domains k count) (begins_lines domains (k + 1) rest) (begins_lines domains k (drop k begins)) h e
     (ap (begins_lines domains k) split)
-
--- what is still to come of the names of some kinds, where none was written yet or some were
-abbrev pub names_left : Bool → List KindName → List ℕ
-names_left true kinds = names_text kinds
-names_left false kinds = flat_map (λ kind. codes "," ++ kind.name) kinds
-
-pub names_next : (none : Bool) (kind : KindName) (kinds : List KindName)
-    → names_left none (kind ∷ kinds) ≡ (if none then kind.name else 44 ∷ kind.name) ++ names_left false kinds
-names_next true kind kinds = refl
-names_next false kind kinds = refl
 
 last_at : (o : Option NodeId) (id : NodeId) (ids : List NodeId) → last_or o (id ∷ ids) ≡ slice_get (id ∷ ids) (length ids)
 last_at o id [] = refl

@@ -12,7 +12,8 @@ use Rattle.cd_tree.specs.declared.refusal.Refusal.TheVariants.{Overlap, Uncovere
 use Rattle.cd_tree.specs.TreeModel.{TreeModel}
 use Rattle.cd_tree.specs.declared.event.Kept.TheVariants.{Regen}
 use Rattle.cd_tree.specs.declared.event.Event.TheVariants.{Begin, Saved, Fell, Lapsed, Refilled, Reached, Halted, Found, Complete, Escalate}
-use Rattle.cd_report.specs.Texts.{report_text, region_line, kinds_text, refusal_line}
+use Rattle.cd_tokens.specs.Written.{kinds_token}
+use Rattle.cd_report.specs.Texts.{report_text, region_line, refusal_line}
 use Rattle.cd_report.specs.Records.{record_text}
 
 abbrev id : ℕ → NodeId
@@ -62,7 +63,7 @@ below_the_root : report_text nested (region (codes "y") 1 ∷ region (codes "z")
 unfolding digits
 below_the_root = refl
 
-some_kinds : kinds_text kinds 13 ≡ codes "flip,link,node"
+some_kinds : kinds_token kinds 13 ≡ codes "flip,link,node"
 some_kinds = refl
 
 -- up to sixteen words are listed

@@ -10,7 +10,8 @@ use Rattle.cd_tree.specs.declared.event.Event.{Event}
 use Rattle.cd_tree.specs.declared.event.Event.TheVariants.{Begin, Saved, Fell, Lapsed, Refilled, Reached, Halted, Found, Complete, Escalate}
 use Rattle.cd_tree.specs.declared.kinds.KindName.{KindName}
 use Rattle.cd_tree.specs.TreeModel.{TreeModel}
-use Rattle.cd_report.specs.Texts.{line, kinds_text, place_text, report_text}
+use Rattle.cd_tokens.specs.Written.{place_token, kinds_token}
+use Rattle.cd_report.specs.Texts.{line, report_text}
 
 -- how an entry was preserved
 abbrev pub kept_text : Kept → List ℕ
@@ -24,14 +25,14 @@ event_text kinds regions (Begin node number) = codes "begin " ++ decimal node.0 
 event_text kinds regions (Saved node entry how) =
     codes "saved " ++ decimal node.0 ++ codes " " ++ decimal entry ++ codes " " ++ kept_text how
 event_text kinds regions (Fell node entry place wanted found) =
-    codes "fell " ++ decimal node.0 ++ codes " " ++ decimal entry ++ codes " " ++ place_text regions place ++ codes " wanted "
+    codes "fell " ++ decimal node.0 ++ codes " " ++ decimal entry ++ codes " " ++ place_token regions place ++ codes " wanted "
     ++ decimal wanted ++ codes " found " ++ decimal found
 event_text kinds regions (Lapsed node entry seen found) =
     codes "lapsed " ++ decimal node.0 ++ codes " " ++ decimal entry ++ codes " seen " ++ decimal seen ++ codes " found " ++ decimal found
 event_text kinds regions (Refilled node entry) = codes "refilled " ++ decimal node.0 ++ codes " " ++ decimal entry
 event_text kinds regions (Reached node point) = codes "reached " ++ decimal node.0 ++ codes " " ++ decimal point
-event_text kinds regions (Halted node found) = codes "halted " ++ decimal node.0 ++ codes " " ++ kinds_text kinds found
-event_text kinds regions (Found node found) = codes "found " ++ decimal node.0 ++ codes " " ++ kinds_text kinds found
+event_text kinds regions (Halted node found) = codes "halted " ++ decimal node.0 ++ codes " " ++ kinds_token kinds found
+event_text kinds regions (Found node found) = codes "found " ++ decimal node.0 ++ codes " " ++ kinds_token kinds found
 event_text kinds regions (Complete node) = codes "complete " ++ decimal node.0
 event_text kinds regions (Escalate node) = codes "escalate " ++ decimal node.0
 

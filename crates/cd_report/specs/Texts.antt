@@ -1,7 +1,6 @@
 -- The texts that a program writes, as lists of bytes: reports, refusals, and lines of their own.
 use Rattle.std.specs.Prelude.{◌≡◌, ℕ, ◌+◌, ◌*◌, ◌<◌, nat_le, List, [], ◌∷◌, ◌++◌, Option, None, Some, length, map, sum, sum_by, slice_get, if◌then◌else◌, codes, decimal}
-use Rattle.std.specs.List.{join_by, flat_map, range_with_len, last_or}
-use Rattle.std.specs.Option.{option_map_or}
+use Rattle.std.specs.List.{flat_map, range_with_len, last_or}
 use Rattle.cd_base.specs.declared.place.Place.{Place}
 use Rattle.cd_base.specs.Words.{Words, word_at, word_of}
 use Rattle.cd_tree.specs.declared.domain.NodeId.{NodeId}
@@ -9,34 +8,18 @@ use Rattle.cd_tree.specs.declared.domain.Domain.{Domain}
 use Rattle.cd_tree.specs.declared.document.Region.{Region}
 use Rattle.cd_tree.specs.declared.document.Document.{Document}
 use Rattle.cd_tree.specs.declared.event.Cause.{Cause}
-use Rattle.cd_tree.specs.declared.kinds.KindName.{KindName}
 use Rattle.cd_tree.specs.declared.refusal.Which.{Which}
 use Rattle.cd_tree.specs.declared.refusal.Which.TheVariants as which
 use Rattle.cd_tree.specs.declared.refusal.Refusal.{Refusal}
 use Rattle.cd_tree.specs.declared.refusal.Refusal.TheVariants.{TooLong, Line, UnknownRegion, OutsideRegion, NameTaken, Shape, Arithmetic, Limit, Overlap, Uncovered, NoTarget, Stale, UnknownPath, NoSuchItem, OutsideReach, Undetected}
-use Rattle.cd_tree.specs.KindSets.{has_kind}
 use Rattle.cd_tree.specs.TreeModel.{TreeModel}
 use Rattle.cd_tree.specs.Paths.{path_text_of}
+use Rattle.cd_tokens.specs.Written.{place_token, kinds_token}
 use Rattle.cd_field.specs.FieldModel.{FieldModel, IsPresent}
 
--- a text with a line feed behind it
+-- a text with a line feed after it
 abbrev pub line : List ℕ → List ℕ
 line text = text ++ 10 ∷ []
-
--- the kinds that are in a set, of a list of kinds whose first is the kind `at`
-abbrev pub kinds_in : ℕ → ℕ → List KindName → List KindName
-kinds_in set at [] = []
-kinds_in set at (kind ∷ kinds) =
-    if has_kind set (record { 0 = at }) then kind ∷ kinds_in set (at + 1) kinds else kinds_in set (at + 1) kinds
-
--- the names of some kinds, joined by commas, or `none` where there are none
-abbrev pub names_text : List KindName → List ℕ
-names_text [] = codes "none"
-names_text (kind ∷ kinds) = join_by (λ k. k.name) (codes ",") (kind ∷ kinds)
-
--- the text of a set of a document's kinds, in the order of declaration
-abbrev pub kinds_text : List KindName → ℕ → List ℕ
-kinds_text kinds set = names_text (kinds_in set 0 kinds)
 
 -- the path of the last domain of a cause's path
 abbrev pub end_text : List Domain → Option NodeId → List ℕ
@@ -47,7 +30,7 @@ end_text domains (Some id) = path_text_of domains id
 abbrev pub outcome_line : TreeModel → Option Cause → List ℕ
 outcome_line tree None = line (codes "committed")
 outcome_line tree (Some cause) =
-    line (codes "exhausted " ++ end_text tree.domains (last_or None cause.path) ++ codes " " ++ kinds_text tree.kinds cause.kinds)
+    line (codes "exhausted " ++ end_text tree.domains (last_or None cause.path) ++ codes " " ++ kinds_token tree.kinds cause.kinds)
 
 -- n words of a region, from an index on
 abbrev pub words_from : Words → ℕ → ℕ → ℕ → List ℕ
@@ -134,15 +117,10 @@ abbrev pub path_in : Option Document → NodeId → List ℕ
 path_in None id = []
 path_in (Some document) id = path_text_of document.tree.domains id
 
--- a place by its region's name and its index; a region that is not there has no name
-abbrev pub place_text : List Region → Place → List ℕ
-place_text regions p =
-    option_map_or (λ region. region.name) (slice_get regions p.region) [] ++ codes "[" ++ decimal p.index ++ codes "]"
-
 -- a place of a document, where there is one
 abbrev pub place_in : Option Document → Place → List ℕ
 place_in None p = []
-place_in (Some document) p = place_text document.regions p
+place_in (Some document) p = place_token document.regions p
 
 -- what a refusal says; only where it names domains or places, of the document
 abbrev pub refusal_text : Option Document → Refusal → List ℕ

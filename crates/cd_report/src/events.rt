@@ -1,10 +1,10 @@
 // The lines of events, as the record of a run has them.
 ghost use Rattle.std.specs.Prelude.{◌≡◌, ◌≤◌, ◌++◌, length, codes, decimal, IfOk, string_bytes};
-ghost use Rattle.cd_report.specs.Texts.{line, kinds_text};
+ghost use Rattle.cd_tokens.specs.Written.{kinds_token};
+ghost use Rattle.cd_report.specs.Texts.{line};
 ghost use Rattle.cd_report.specs.Records.{kept_text, event_line};
 
-use crate::outcome::kinds_text;
-use crate::places::place_text;
+use cd_tokens::{kinds_text, place_text};
 use cd_tree::{Event, Kept, KindName, Kinds, NodeId, Region};
 use std::alloc::{AllocError, Global};
 
@@ -69,7 +69,7 @@ fn named(
     kinds: Kinds,
 ) -> Result<String, AllocError>
     requires { length names.now ≤ 16 }
-    ensures { IfOk result (λ text. string_bytes text ≡ line (word.now ++ codes " " ++ decimal node.0 ++ codes " " ++ kinds_text names.now kinds)) }
+    ensures { IfOk result (λ text. string_bytes text ≡ line (word.now ++ codes " " ++ decimal node.0 ++ codes " " ++ kinds_token names.now kinds)) }
 {
     let kinds = kinds_text(alloc, names, kinds)?;
     let text = format!(in alloc; "{word} {} {kinds}\n", node.0)?;

@@ -11,7 +11,6 @@ mod begins;
 mod events;
 mod lines;
 mod outcome;
-mod places;
 mod record;
 mod refusal;
 mod regions;

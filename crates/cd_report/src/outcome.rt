@@ -1,12 +1,13 @@
-// The first line of a report, and the texts that it shares with other lines: paths, and sets of kinds.
-ghost use Rattle.std.specs.Prelude.{◌≡◌, ◌≤◌, ◌++◌, ◌∷◌, length, None, Some, OnOk, IfOk, string_bytes, if◌then◌else◌};
+// The first line of a report, and the paths that it shares with other lines.
+ghost use Rattle.std.specs.Prelude.{◌≡◌, ◌++◌, None, Some, OnOk, string_bytes};
 ghost use Rattle.std.specs.List.{last_or};
 ghost use Rattle.std.specs.Option.{option_copied};
 ghost use Rattle.cd_tree.specs.TreeModel.{IsTree};
 ghost use Rattle.cd_tree.specs.Paths.{path_text_of};
-ghost use Rattle.cd_report.specs.Texts.{outcome_line, end_text, kinds_text};
+ghost use Rattle.cd_report.specs.Texts.{outcome_line, end_text};
 
-use cd_tree::{Cause, Kind, KindName, Kinds, NodeId, Tree, path_text};
+use cd_tokens::add_kinds;
+use cd_tree::{Cause, NodeId, Tree, path_text};
 use std::alloc::{AllocError, Global};
 
 /// Puts the first line of a report behind a text: whether the run committed, or where and by what it was exhausted.
@@ -73,42 +74,4 @@ pub fn add_path(
         Ok(path) => text.push_str(path.as_str()),
         Err(_) => Err(AllocError),
     }
-}
-
-/// The names of the kinds of a set, joined by commas, or `none`.
-pub fn kinds_text(alloc: Global, names: &[KindName], kinds: Kinds) -> Result<String, AllocError>
-    requires { length names.now ≤ 16 }
-    ensures { IfOk result (λ text. string_bytes text ≡ kinds_text names.now kinds) }
-{
-    let mut text = String::new(alloc);
-    add_kinds(names, kinds, &mut text)?;
-    Ok(text)
-}
-
-/// Puts the names of the kinds of a set behind a text, joined by commas, or `none`.
-fn add_kinds(names: &[KindName], kinds: Kinds, text: &mut String) -> Result<(), AllocError>
-    requires { length names.now ≤ 16 }
-    ensures { OnOk result (string_bytes text.new ≡ string_bytes text.old ++ kinds_text names.now kinds) }
-{
-    let mut is_empty = true;
-    for (number, kind) in names.iter().enumerate() {
-        if kinds.has(Kind(number as u8)) {
-            add_name(kind.name.as_str(), is_empty, text)?;
-            is_empty = false;
-        }
-    }
-    if is_empty {
-        text.push_str("none")?;
-    }
-    Ok(())
-}
-
-/// Puts a name behind a text, after a comma unless it is the first.
-fn add_name(name: &str, is_first: bool, text: &mut String) -> Result<(), AllocError>
-    ensures { OnOk result (string_bytes text.new ≡ string_bytes text.old ++ (if is_first then name.now else 44 ∷ name.now)) }
-{
-    if !is_first {
-        text.push_str(",")?;
-    }
-    text.push_str(name)
 }

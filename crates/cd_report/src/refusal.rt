@@ -5,8 +5,8 @@ ghost use Rattle.cd_base.specs.Ends.{WriteAll};
 ghost use Rattle.cd_report.specs.Texts.{line, refusal_text, refusal_line, path_in, place_in, which_text};
 
 use crate::outcome::add_path;
-use crate::places::place_text;
 use cd_base::{Place, Sink, WriteStop, write_all};
+use cd_tokens::place_text;
 use cd_tree::{Document, NodeId, Refusal, Which};
 use std::alloc::{AllocError, Global};
 

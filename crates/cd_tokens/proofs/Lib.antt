@@ -4,3 +4,4 @@ pub mod CutLemmas
 pub mod LineLemmas
 pub mod BlockLemmas
 pub mod NameLemmas
+pub mod WrittenLemmas

@@ -1,4 +1,5 @@
--- What the tokens of a text mean: lines and blocks, numbers, names, kinds, and what is wrong with them.
+-- What the tokens of a text mean: lines and blocks, numbers, names, kinds, and what is wrong with them; and how places and kinds
+-- are written as tokens.
 pub mod Wrongs
 pub mod Lines
 pub mod Blocks
@@ -8,3 +9,4 @@ pub mod Layouts
 pub mod Cuts
 pub mod Names
 pub mod Kinds
+pub mod Written

@@ -10,13 +10,12 @@ use cd_base::{NoMemory, Text};
 use std::alloc::Global;
 use std::marker::Model;
 
+/// A part of a statement, or what is wrong with it; an error where there is no memory to keep the part.
+pub type Parsed<T> = Result<Result<T, Wrong>, NoMemory>;
+
 /// A name, or what is wrong with it.
 #[tactic(auto, unfolding(crate::specs::Names::name))]
-pub fn name(
-    alloc: Global,
-    variables: &[Variable],
-    token: &[u8],
-) -> Result<Result<Text, Wrong>, NoMemory>
+pub fn name(alloc: Global, variables: &[Variable], token: &[u8]) -> Parsed<Text>
     ensures { IfOk result (λ read. read ≡ name variables.now token.now) }
 {
     match find(token, b':') {
@@ -26,7 +25,7 @@ pub fn name(
 }
 
 // A base alone.
-fn base_name(alloc: Global, token: &[u8]) -> Result<Result<Text, Wrong>, NoMemory>
+fn base_name(alloc: Global, token: &[u8]) -> Parsed<Text>
     ensures { IfOk result (λ read. read ≡ base_name token.now) }
 {
     if !is_base(token) {
@@ -36,12 +35,7 @@ fn base_name(alloc: Global, token: &[u8]) -> Result<Result<Text, Wrong>, NoMemor
 }
 
 // A base and a number.
-fn numbered_name(
-    alloc: Global,
-    variables: &[Variable],
-    base: &[u8],
-    number: &[u8],
-) -> Result<Result<Text, Wrong>, NoMemory>
+fn numbered_name(alloc: Global, variables: &[Variable], base: &[u8], number: &[u8]) -> Parsed<Text>
     ensures { IfOk result (λ read. read ≡ numbered_name variables.now base.now number.now) }
 {
     match both(
@@ -127,7 +121,7 @@ impl Names {
         Ok(())
     }
 
-    fn finish(self, alloc: Global) -> Result<Result<Text, Wrong>, NoMemory>
+    fn finish(self, alloc: Global) -> Parsed<Text>
         ensures { IfOk result (λ read. read ≡ self) }
     {
         let Names { text, wrong } = self;
@@ -140,11 +134,7 @@ impl Names {
 
 /// Names joined by `/`, or what is wrong with them.
 #[tactic(auto, unfolding(crate::specs::Names::path))]
-pub fn path(
-    alloc: Global,
-    variables: &[Variable],
-    token: &[u8],
-) -> Result<Result<Text, Wrong>, NoMemory>
+pub fn path(alloc: Global, variables: &[Variable], token: &[u8]) -> Parsed<Text>
     ensures { IfOk result (λ read. read ≡ path variables.now token.now) }
 {
     let mut path = Names::new(alloc);

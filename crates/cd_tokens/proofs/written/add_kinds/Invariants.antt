@@ -1,7 +1,7 @@
 use Rattle.std.proofs.Common.{◌≡◌, ◌++◌, drop, string_bytes}
-use Rattle.cd_print.specs.Canonical.{kinds_in, kinds_token}
-use Rattle.cd_print.proofs.PrintLemmas.{names_left}
-use Rattle.cd_print.proofs.tokens.add_kinds.Given as goal
+use Rattle.cd_tokens.specs.Written.{kinds_in, kinds_token}
+use Rattle.cd_tokens.proofs.WrittenLemmas.{names_left}
+use Rattle.cd_tokens.proofs.written.add_kinds.Given as goal
 
 -- what is written and what is still to come are the whole
 abbrev pub invariant-loop-number : goal.invariant-loop-number
