@@ -1,5 +1,5 @@
 -- Ranges and places that a document names lie in its regions.
-use Rattle.std.proofs.Common.{◌≡◌, ℕ, suc, All, ◌+◌, ◌<◌, ◌≤◌, ◌&&◌, nat_lt, nat_le, IsSomeAnd, List, [], ◌∷◌, ◌++◌, Option, None, Some, Result, Ok, slice_get, take, drop, position, refl, ap, sym, ◌∙◌, subst, arith, inl, inr, bytes_eq, ltb-true, leb-true}
+use Rattle.std.proofs.Common.{◌≡◌, ℕ, suc, All, ◌+◌, ◌<◌, ◌≤◌, ◌&&◌, nat_lt, nat_le, IsSomeAnd, List, [], ◌∷◌, ◌++◌, Option, None, Some, Ok, slice_get, take, drop, position, refl, ap, sym, ◌∙◌, subst, arith, inl, inr, bytes_eq, ltb-true, leb-true}
 use Rattle.std.proofs.lemmas.Bool.{and_parts}
 use Rattle.std.proofs.lemmas.Option.{slice_get_within}
 use Rattle.std.proofs.lemmas.List.Elements.{All-head, All-tail}
