@@ -32,7 +32,7 @@ use Rattle.cd_parse.specs.Heads.{name_fits, begun, cd_in, is_kind_name, with_kin
 use Rattle.cd_parse.specs.Statements.{with_op, operation_in, statement, statement_in}
 use Rattle.cd_parse.specs.Sound.{IsRangeOf, IsFaultOf, IsSound}
 use Rattle.cd_parse.specs.WellRead.{IsReadPattern, IsReadHow, IsReadPath}
-use Rattle.cd_parse.proofs.SoundGuards.{Bound, bound, both_ok, same_ok, guard_ok, room_ok, hold_ok, if_ok, if_else_err}
+use Rattle.cd_parse.proofs.SoundGuards.{Bound, bound, both_ok, from_both, same_ok, guard_ok, room_ok, hold_ok, if_ok, if_else_err}
 use Rattle.cd_parse.proofs.SoundNumbers.{expression_small, pattern_read, how_read, name_is_base, path_read}
 use Rattle.cd_parse.proofs.SoundNames.{name_is_no_path, kind_known, kind_set_known}
 use Rattle.cd_parse.proofs.SoundPlaces.{range_known, range_full, place_known}
@@ -198,6 +198,17 @@ read A test rest step next is =
     let two = both_ok (Unit {0}) A (guard test Form) rest parts.value parts.is in
     record { value = parts.value.1; takes = guard_ok test Form parts.value.0 two.0; is = two.1; done = parts.next }
 
+-- the same of three parts: what follows from them follows from the whole
+from_read : (A B C Q : Type 0) (test : Bool) (r : Result A Wrong) (s : Result B Wrong) (t : Result C Wrong) (step : A × (B × C) → Result DraftModel Wrong) (next : DraftModel)
+    → ((a : A) (b : B) (c : C) → test ≡ true → r ≡ Ok a → s ≡ Ok b → t ≡ Ok c → step (a, (b, c)) ≡ Ok next → Q)
+    → (both (guard test Form) (both r (both s t)) >>= λ p. step p.1) ≡ Ok next → Q
+from_read A B C Q test r s t step next gives =
+    from_both (Unit {0}) (A × (B × C)) DraftModel Q (guard test Form) (both r (both s t)) (λ p. step p.1) next
+    (λ u v takes parts done.
+    let one = both_ok A (B × C) r (both s t) v parts in
+    let two = both_ok B C s t v.1 one.1 in
+    gives v.0 v.1.0 v.1.1 (guard_ok test Form u takes) one.0 two.0 two.1 done)
+
 short_name : (name : List ℕ) → name_fits name ≡ Ok tt → length name ≤ name_limit
 short_name name is = leb-true (length name) name_limit (guard_ok (nat_le (length name) name_limit) _ tt is)
 
@@ -285,14 +296,11 @@ unfolding region_statement
 region_keeps P kept variables draft [] next sound holds is = absurd (cc)
 region_keeps P kept variables draft (token ∷ []) next sound holds is = absurd (cc)
 region_keeps P kept variables draft (token ∷ size ∷ more) next sound holds is =
-    let last : Result (ℕ × Pattern) Wrong = both (expression variables size) (pattern variables more) in
-    let parts : Read (List ℕ × (ℕ × Pattern)) (takes_regions draft.stage) (both (name variables token) last) (λ p. with_region draft p.0 p.1.0 p.1.1) next =
-    read (List ℕ × (ℕ × Pattern)) (takes_regions draft.stage) (both (name variables token) last) (λ p. with_region draft p.0 p.1.0 p.1.1) next is in
-    let v : List ℕ × (ℕ × Pattern) = parts.value in
-    let one = both_ok (List ℕ) (ℕ × Pattern) (name variables token) last v parts.is in
-    let two = both_ok ℕ Pattern (expression variables size) (pattern variables more) v.1 one.1 in
-    with_region_keeps P kept draft v.0 v.1.0 v.1.1 next sound holds parts.takes (name_is_base variables token v.0 one.0)
-    (pattern_read variables more v.1.1 two.1) parts.done
+    from_read (List ℕ) ℕ Pattern (P next) (takes_regions draft.stage) (name variables token) (expression variables size) (pattern variables more)
+    (λ p. with_region draft p.0 p.1.0 p.1.1) next
+    (λ named words values takes has_name _ has_values.
+    with_region_keeps P kept draft named words values next sound holds takes (name_is_base variables token named has_name)
+    (pattern_read variables more values has_values)) is
 
 -- ---- domains
 
@@ -333,16 +341,12 @@ domain_keeps P kept variables draft (token ∷ retry ∷ []) next sound holds is
 domain_keeps P kept variables draft (token ∷ retry ∷ tries ∷ []) next sound holds is = absurd (cc)
 domain_keeps P kept variables draft (token ∷ retry ∷ tries ∷ detects ∷ []) next sound holds is = absurd (cc)
 domain_keeps P kept variables draft (token ∷ retry ∷ tries ∷ detects ∷ kinds ∷ []) next sound holds is =
-    let last : Result (ℕ × ℕ) Wrong = both (expression variables tries) (kind_set draft.kinds kinds) in
-    let rest : Result (List ℕ × (ℕ × ℕ)) Wrong = both (name variables token) last in
-    let parts : Read (List ℕ × (ℕ × ℕ)) (has_domain_form draft retry detects) rest (λ p. with_domain draft p.0 p.1.0 p.1.1) next =
-    read (List ℕ × (ℕ × ℕ)) (has_domain_form draft retry detects) rest (λ p. with_domain draft p.0 p.1.0 p.1.1) next is in
-    let v : List ℕ × (ℕ × ℕ) = parts.value in
-    let one = both_ok (List ℕ) (ℕ × ℕ) (name variables token) last v parts.is in
-    let two = both_ok ℕ ℕ (expression variables tries) (kind_set draft.kinds kinds) v.1 one.1 in
-    let takes = and_parts (takes_domains draft draft.levels) (bytes_eq retry (codes "retry") && bytes_eq detects (codes "detects")) parts.takes in
-    with_domain_keeps P kept draft v.0 v.1.0 v.1.1 next sound holds takes.0 (name_is_base variables token v.0 one.0)
-    (name_is_no_path variables token v.0 one.0) (kind_set_known draft.kinds kinds v.1.1 two.1) parts.done
+    from_read (List ℕ) ℕ ℕ (P next) (has_domain_form draft retry detects) (name variables token) (expression variables tries) (kind_set draft.kinds kinds)
+    (λ p. with_domain draft p.0 p.1.0 p.1.1) next
+    (λ named count set form has_name _ has_set.
+    let takes = and_parts (takes_domains draft draft.levels) (bytes_eq retry (codes "retry") && bytes_eq detects (codes "detects")) form in
+    with_domain_keeps P kept draft named count set next sound holds takes.0 (name_is_base variables token named has_name)
+    (name_is_no_path variables token named has_name) (kind_set_known draft.kinds kinds set has_set)) is
 domain_keeps P kept variables draft (token ∷ retry ∷ tries ∷ detects ∷ kinds ∷ other ∷ more) next sound holds is = absurd (cc)
 
 -- ---- entries

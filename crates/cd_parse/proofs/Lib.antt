@@ -10,7 +10,6 @@ pub mod SoundStatements
 pub mod Found
 mod SoundNames
 mod SoundOps
-mod SoundRanges
 mod SoundHeads
 mod SoundGuards
 mod SoundBegins

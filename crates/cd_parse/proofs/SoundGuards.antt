@@ -5,7 +5,7 @@ use Rattle.cd_tree.specs.declared.refusal.Refusal.{Refusal}
 use Rattle.cd_tokens.specs.declared.wrong.Wrong.{Wrong}
 use Rattle.cd_tokens.specs.Wrongs.{both, guard, room, all_hold, at_line, ◌>>=◌}
 
--- a step that has a value, and what the step behind it made of that value
+-- a step that has a value, and what the step after it made of that value
 pub record Bound (A B E : Type 0) (r : Result A E) (f : A → Result B E) (b : B) : Type 0 where
   pub value : A
   pub is : r ≡ Ok value
@@ -25,6 +25,21 @@ both_ok A B (Ok a) (Ok b) p is =
 both_ok A B (Ok a) (Err other) p is = absurd (cc)
 both_ok A B (Err one) (Ok b) p is = absurd (cc)
 both_ok A B (Err one) (Err other) p is = absurd (cc)
+
+-- what follows from the two parts of a step, and from what is made of them, follows from the step
+pub from_both : (A B C Q : Type 0) (r : Result A Wrong) (s : Result B Wrong) (f : A × B → Result C Wrong) (c : C)
+    → ((a : A) (b : B) → r ≡ Ok a → s ≡ Ok b → f (a, b) ≡ Ok c → Q) → (both r s >>= f) ≡ Ok c → Q
+from_both A B C Q (Ok a) (Ok b) f c gives is = gives a b refl refl is
+from_both A B C Q (Ok a) (Err other) f c gives is = absurd (cc)
+from_both A B C Q (Err one) (Ok b) f c gives is = absurd (cc)
+from_both A B C Q (Err one) (Err other) f c gives is = absurd (cc)
+
+-- the same of three parts
+pub from_three : (A B C D Q : Type 0) (r : Result A Wrong) (s : Result B Wrong) (t : Result C Wrong) (f : A × (B × C) → Result D Wrong) (d : D)
+    → ((a : A) (b : B) (c : C) → r ≡ Ok a → s ≡ Ok b → t ≡ Ok c → f (a, (b, c)) ≡ Ok d → Q) → (both r (both s t) >>= f) ≡ Ok d → Q
+from_three A B C D Q r s t f d gives =
+    from_both A (B × C) D Q r (both s t) f d
+    (λ a p is rest next. let parts = both_ok B C s t p rest in gives a p.0 p.1 is parts.0 parts.1 next)
 
 pub guard_ok : (test : Bool) (wrong : Wrong) (u : Unit {0}) → guard test wrong ≡ Ok u → test ≡ true
 guard_ok true wrong u is = refl

@@ -1,4 +1,4 @@
--- The statements before the root and behind it keep a draft sound.
+-- The statements before the root and after it keep a draft sound.
 use Rattle.std.proofs.Common.{◌≡◌, ℕ, suc, ◌<◌, ◌≤◌, Bool, true, false, List, [], ◌∷◌, ◌++◌, Some, codes, length, slice_get, refl, ap, sym, ◌∙◌, subst, arith, inl, inr, bytes_eq}
 use Rattle.std.proofs.lemmas.List.Elements.{All-append, All-cons, All-nil}
 use Rattle.cd_tree.specs.Limits.{kinds_limit, regions_limit, words_limit, faults_limit}
@@ -130,7 +130,7 @@ region_is_sound draft region words is stage some room few =
       few_words = few;
     })
 
--- ---- behind the root
+-- ---- after the root
 
 staged_for_strikes : (stage : Stage) (domains : List Domain) (levels : List Level) → is_closed stage ≡ true → IsStaged stage domains levels
     → IsStaged Strikes domains levels

@@ -58,7 +58,7 @@ changed_other zero change (first ∷ domains) (suc k) other = refl
 changed_other (suc at) change (first ∷ domains) zero other = refl
 changed_other (suc at) change (first ∷ domains) (suc k) other = changed_other at change domains k (λ same. other (ap suc same))
 
--- ---- a list that grows: one domain changed, and others behind all
+-- ---- a list that grows: one domain changed, and others after all
 
 pub record Grown (at : ℕ) (domains more : List Domain) : Type 0 where
   pub others : (k : ℕ) → k < length domains → (k ≡ at → ⊥) → slice_get more k ≡ slice_get domains k

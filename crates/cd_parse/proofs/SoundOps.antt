@@ -1,59 +1,21 @@
--- Operations of a document have ranges with places, and where they fit, the shape that a program wants.
-use Rattle.std.proofs.Common.{Bool, ◌≡◌, ◌<◌, ◌^◌, ℕ, ◌+◌, ◌==◌, ◌&&◌, true, List, [], ◌∷◌, Result, Ok, codes, subst, All, inl, inr, bytes_eq, eqb-true}
-use Rattle.std.proofs.lemmas.Bool.{and_parts}
+-- What holds of each range that a token names holds of the ranges of an operation: they have places.
+use Rattle.std.proofs.Common.{◌≡◌, ◌<◌, ◌^◌, ℕ, List, [], ◌∷◌, Result, Ok, codes, subst, All, inl, inr, bytes_eq}
 use Rattle.std.proofs.lemmas.List.Elements.{All-cons, All-nil}
 use Rattle.cd_base.specs.declared.place.Range.{Range}
 use Rattle.cd_tree.specs.declared.document.Region.{Region}
 use Rattle.cd_tree.specs.declared.operation.Op.{Op}
 use Rattle.cd_tree.specs.declared.operation.Op.TheVariants.{Fill, Copy, Add, Sub, Mul, Axpy, Scan, Sum, Dot, Max, Stencil, Spmv}
-use Rattle.cd_tree.specs.Operations.{op_reads, op_writes, length_of, IsFull, FitsShape}
+use Rattle.cd_tree.specs.Operations.{op_reads, op_writes, IsFull}
 use Rattle.cd_tokens.specs.declared.wrong.Wrong.{Wrong}
 use Rattle.cd_tokens.specs.declared.wrong.Wrong.TheVariants.{Form}
 use Rattle.cd_tokens.specs.declared.sums.Variable.{Variable}
 use Rattle.cd_tokens.specs.Wrongs.{both, ◌>>=◌}
 use Rattle.cd_tokens.specs.Sums.{expression}
 use Rattle.cd_parse.specs.Ranges.{range_in}
-use Rattle.cd_parse.specs.Operations.{two_ranges, three_ranges, fill_in, axpy_in, weights, stencil_in, spmv_in, short_op, long_op, is_short, is_long, op_in, is_apart, is_in_step, are_apart, fits}
-use Rattle.cd_parse.proofs.SoundGuards.{Bound, bound, both_ok, same_ok, if_ok, if_else_err}
+use Rattle.cd_parse.specs.Operations.{two_ranges, three_ranges, fill_in, axpy_in, weights, stencil_in, spmv_in, short_op, long_op, is_short, is_long, op_in}
+use Rattle.cd_parse.proofs.SoundGuards.{Bound, bound, both_ok, from_both, from_three, same_ok, if_ok, if_else_err}
 use Rattle.cd_parse.proofs.SoundNumbers.{expression_small}
-use Rattle.cd_parse.proofs.SoundRanges.{HavePlaces, apart_ranges, in_step}
-use Rattle.cd_parse.proofs.SoundPlaces.{range_full}
-
-pub shape_of : (op : Op) → fits op ≡ true → FitsShape op
-shape_of (Fill d k) is = tt
-shape_of (Copy d x) is = in_step d x is
-shape_of (Add d x z) is = let parts = and_parts (is_in_step d x) (is_in_step d z) is in (in_step d x parts.0, in_step d z parts.1)
-shape_of (Sub d x z) is = let parts = and_parts (is_in_step d x) (is_in_step d z) is in (in_step d x parts.0, in_step d z parts.1)
-shape_of (Mul d x z) is = let parts = and_parts (is_in_step d x) (is_in_step d z) is in (in_step d x parts.0, in_step d z parts.1)
-shape_of (Axpy d k x) is = in_step d x is
-shape_of (Scan d x) is = in_step d x is
-shape_of (Sum d x) is =
-    let parts = and_parts (length_of d == 1) (is_apart d x) is in (eqb-true (length_of d) 1 parts.0, apart_ranges d x parts.1)
-shape_of (Dot d x z) is =
-    let one = and_parts (length_of d == 1) ((length_of x == length_of z) && (is_apart d x && is_apart d z)) is in
-    let two = and_parts (length_of x == length_of z) (is_apart d x && is_apart d z) one.1 in
-    let apart = and_parts (is_apart d x) (is_apart d z) two.1 in
-    (eqb-true (length_of d) 1 one.0, eqb-true (length_of x) (length_of z) two.0, apart_ranges d x apart.0, apart_ranges d z apart.1)
-shape_of (Max d x) is =
-    let parts = and_parts (length_of d == 1) (is_apart d x) is in (eqb-true (length_of d) 1 parts.0, apart_ranges d x parts.1)
-shape_of (Stencil d a b c x) is =
-    let parts = and_parts (length_of x == length_of d + 2) (is_apart d x) is in
-    (eqb-true (length_of x) (length_of d + 2) parts.0, apart_ranges d x parts.1)
-shape_of (Spmv d s c v x) is =
-    let long : Bool = length_of s == length_of d + 1 in
-    let same : Bool = length_of c == length_of v in
-    let all = and_parts ((long && same) && are_apart d s c) (are_apart d v x) is in
-    let front = and_parts (long && same) (are_apart d s c) all.0 in
-    let sizes = and_parts long same front.0 in
-    let first = and_parts (is_apart d s) (is_apart d c) front.1 in
-    let second = and_parts (is_apart d v) (is_apart d x) all.1 in (
-      eqb-true (length_of s) (length_of d + 1) sizes.0,
-      eqb-true (length_of c) (length_of v) sizes.1,
-      apart_ranges d s first.0,
-      apart_ranges d c first.1,
-      apart_ranges d v second.0,
-      apart_ranges d x second.1,
-    )
+use Rattle.cd_parse.proofs.SoundPlaces.{HavePlaces, range_full}
 
 -- ---- what holds of each range
 
@@ -150,10 +112,8 @@ unfolding fill_in
 fill_all P Q makes variables regions [] op some is = absurd (cc)
 fill_all P Q makes variables regions (d ∷ []) op some is = absurd (cc)
 fill_all P Q makes variables regions (d ∷ k ∷ []) op some is =
-    let parts : Bound (Range × ℕ) Op Wrong (both (range_in variables regions d) (expression variables k)) (λ p. Ok (Fill p.0 p.1)) op =
-    bound (Range × ℕ) Op Wrong (both (range_in variables regions d) (expression variables k)) (λ p. Ok (Fill p.0 p.1)) op is in
-    let both_parts = both_ok Range ℕ (range_in variables regions d) (expression variables k) parts.value parts.is in
-    of_same Q (Fill parts.value.0 parts.value.1) op (makes.fill parts.value.0 parts.value.1 (some d parts.value.0 both_parts.0) (expression_small variables k parts.value.1 both_parts.1)) parts.next
+    from_both Range ℕ Op (Q op) (range_in variables regions d) (expression variables k) (λ p. Ok (Fill p.0 p.1)) op
+    (λ r n named counted. of_same Q (Fill r n) op (makes.fill r n (some d r named) (expression_small variables k n counted))) is
 fill_all P Q makes variables regions (d ∷ k ∷ y ∷ more) op some is = absurd (cc)
 
 axpy_all : (P : Range → Type 0) (Q : Op → Type 0) (makes : Makes P Q) (variables : List Variable) (regions : List Region) (tokens : List (List ℕ)) (op : Op) → Gives P variables regions
@@ -163,16 +123,10 @@ axpy_all P Q makes variables regions [] op some is = absurd (cc)
 axpy_all P Q makes variables regions (d ∷ []) op some is = absurd (cc)
 axpy_all P Q makes variables regions (d ∷ k ∷ []) op some is = absurd (cc)
 axpy_all P Q makes variables regions (d ∷ k ∷ x ∷ []) op some is =
-    let parts : Bound (Range × (ℕ × Range)) Op Wrong (both (range_in variables regions d) (both (expression variables k) (range_in variables regions x)))
-    (λ p. Ok (Axpy p.0 p.1.0 p.1.1)) op =
-    bound (Range × (ℕ × Range)) Op Wrong (both (range_in variables regions d) (both (expression variables k) (range_in variables regions x)))
-    (λ p. Ok (Axpy p.0 p.1.0 p.1.1)) op is in
-    let one = both_ok Range (ℕ × Range) (range_in variables regions d) (both (expression variables k) (range_in variables regions x)) parts.value parts.is in
-    let two = both_ok ℕ Range (expression variables k) (range_in variables regions x) parts.value.1 one.1 in
-    let has_d : P parts.value.0 = some d parts.value.0 one.0 in
-    let has_x : P parts.value.1.1 = some x parts.value.1.1 two.1 in
-    of_same Q (Axpy parts.value.0 parts.value.1.0 parts.value.1.1) op
-    (makes.axpy parts.value.0 parts.value.1.0 parts.value.1.1 has_d (expression_small variables k parts.value.1.0 two.0) has_x) parts.next
+    from_three Range ℕ Range Op (Q op) (range_in variables regions d) (expression variables k) (range_in variables regions x)
+    (λ p. Ok (Axpy p.0 p.1.0 p.1.1)) op
+    (λ r n s named counted source.
+    of_same Q (Axpy r n s) op (makes.axpy r n s (some d r named) (expression_small variables k n counted) (some x s source))) is
 axpy_all P Q makes variables regions (d ∷ k ∷ x ∷ y ∷ more) op some is = absurd (cc)
 
 weights_small : (variables : List Variable) (a b c : List ℕ) (p : ℕ × (ℕ × ℕ)) → weights variables a b c ≡ Ok p
@@ -192,18 +146,12 @@ stencil_all P Q makes variables regions (d ∷ a ∷ []) op some is = absurd (cc
 stencil_all P Q makes variables regions (d ∷ a ∷ b ∷ []) op some is = absurd (cc)
 stencil_all P Q makes variables regions (d ∷ a ∷ b ∷ c ∷ []) op some is = absurd (cc)
 stencil_all P Q makes variables regions (d ∷ a ∷ b ∷ c ∷ x ∷ []) op some is =
-    let parts : Bound (Range × ((ℕ × (ℕ × ℕ)) × Range)) Op Wrong
-    (both (range_in variables regions d) (both (weights variables a b c) (range_in variables regions x)))
-    (λ p. Ok (Stencil p.0 p.1.0.0 p.1.0.1.0 p.1.0.1.1 p.1.1)) op =
-    bound (Range × ((ℕ × (ℕ × ℕ)) × Range)) Op Wrong
-    (both (range_in variables regions d) (both (weights variables a b c) (range_in variables regions x)))
-    (λ p. Ok (Stencil p.0 p.1.0.0 p.1.0.1.0 p.1.0.1.1 p.1.1)) op is in
-    let v : Range × ((ℕ × (ℕ × ℕ)) × Range) = parts.value in
-    let one = both_ok Range ((ℕ × (ℕ × ℕ)) × Range) (range_in variables regions d) (both (weights variables a b c) (range_in variables regions x)) v parts.is in
-    let two = both_ok (ℕ × (ℕ × ℕ)) Range (weights variables a b c) (range_in variables regions x) v.1 one.1 in
-    let three = weights_small variables a b c v.1.0 two.0 in
-    of_same Q (Stencil v.0 v.1.0.0 v.1.0.1.0 v.1.0.1.1 v.1.1) op
-    (makes.stencil v.0 v.1.0.0 v.1.0.1.0 v.1.0.1.1 v.1.1 (some d v.0 one.0) three.0 three.1.0 three.1.1 (some x v.1.1 two.1)) parts.next
+    from_three Range (ℕ × (ℕ × ℕ)) Range Op (Q op) (range_in variables regions d) (weights variables a b c) (range_in variables regions x)
+    (λ p. Ok (Stencil p.0 p.1.0.0 p.1.0.1.0 p.1.0.1.1 p.1.1)) op
+    (λ r w s named counted source.
+    let small = weights_small variables a b c w counted in
+    of_same Q (Stencil r w.0 w.1.0 w.1.1 s) op
+    (makes.stencil r w.0 w.1.0 w.1.1 s (some d r named) small.0 small.1.0 small.1.1 (some x s source))) is
 stencil_all P Q makes variables regions (d ∷ a ∷ b ∷ c ∷ x ∷ y ∷ more) op some is = absurd (cc)
 
 spmv_all : (P : Range → Type 0) (Q : Op → Type 0) (makes : Makes P Q) (variables : List Variable) (regions : List Region) (tokens : List (List ℕ)) (op : Op) → Gives P variables regions
@@ -212,19 +160,12 @@ unfolding spmv_in
 spmv_all P Q makes variables regions [] op some is = absurd (cc)
 spmv_all P Q makes variables regions (d ∷ []) op some is = absurd (cc)
 spmv_all P Q makes variables regions (d ∷ s ∷ more) op some is =
-    let parts : Bound (Range × (Range × (Range × (Range × Range)))) Op Wrong
-    (both (range_in variables regions d) (both (range_in variables regions s) (three_ranges variables regions more)))
-    (λ p. Ok (Spmv p.0 p.1.0 p.1.1.0 p.1.1.1.0 p.1.1.1.1)) op =
-    bound (Range × (Range × (Range × (Range × Range)))) Op Wrong
-    (both (range_in variables regions d) (both (range_in variables regions s) (three_ranges variables regions more)))
-    (λ p. Ok (Spmv p.0 p.1.0 p.1.1.0 p.1.1.1.0 p.1.1.1.1)) op is in
-    let v : Range × (Range × (Range × (Range × Range))) = parts.value in
-    let one = both_ok Range (Range × (Range × (Range × Range))) (range_in variables regions d)
-    (both (range_in variables regions s) (three_ranges variables regions more)) v parts.is in
-    let two = both_ok Range (Range × (Range × Range)) (range_in variables regions s) (three_ranges variables regions more) v.1 one.1 in
-    let three = three_all P variables regions more v.1.1 some two.1 in
-    of_same Q (Spmv v.0 v.1.0 v.1.1.0 v.1.1.1.0 v.1.1.1.1) op
-    (makes.spmv v.0 v.1.0 v.1.1.0 v.1.1.1.0 v.1.1.1.1 (some d v.0 one.0) (some s v.1.0 two.0) three.0 three.1.0 three.1.1) parts.next
+    from_three Range Range (Range × (Range × Range)) Op (Q op) (range_in variables regions d) (range_in variables regions s)
+    (three_ranges variables regions more) (λ p. Ok (Spmv p.0 p.1.0 p.1.1.0 p.1.1.1.0 p.1.1.1.1)) op
+    (λ r starts t named first rest.
+    let all = three_all P variables regions more t some rest in
+    of_same Q (Spmv r starts t.0 t.1.0 t.1.1) op
+    (makes.spmv r starts t.0 t.1.0 t.1.1 (some d r named) (some s starts first) all.0 all.1.0 all.1.1)) is
 
 short_tokens : (P : Range → Type 0) (Q : Op → Type 0) (makes : Makes P Q) (variables : List Variable) (regions : List Region) (keyword : List ℕ) (tokens : List (List ℕ)) (op : Op) → Gives P variables regions
     → (two_ranges variables regions tokens >>= λ p. short_op keyword p.0 p.1) ≡ Ok op → Q op

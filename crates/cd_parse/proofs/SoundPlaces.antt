@@ -1,5 +1,5 @@
 -- Ranges and places that a document names lie in its regions.
-use Rattle.std.proofs.Common.{◌≡◌, ℕ, suc, ◌+◌, ◌<◌, ◌≤◌, ◌&&◌, nat_lt, nat_le, IsSomeAnd, List, [], ◌∷◌, ◌++◌, Option, None, Some, Result, Ok, slice_get, take, drop, position, refl, ap, sym, ◌∙◌, subst, arith, inl, inr, bytes_eq, ltb-true, leb-true}
+use Rattle.std.proofs.Common.{◌≡◌, ℕ, suc, All, ◌+◌, ◌<◌, ◌≤◌, ◌&&◌, nat_lt, nat_le, IsSomeAnd, List, [], ◌∷◌, ◌++◌, Option, None, Some, Ok, slice_get, take, drop, position, refl, ap, sym, ◌∙◌, subst, arith, inl, inr, bytes_eq, ltb-true, leb-true}
 use Rattle.std.proofs.lemmas.Bool.{and_parts}
 use Rattle.std.proofs.lemmas.Option.{slice_get_within}
 use Rattle.std.proofs.lemmas.List.Elements.{All-head, All-tail}
@@ -10,14 +10,15 @@ use Rattle.cd_tree.specs.Operations.{IsFull}
 use Rattle.cd_tokens.specs.declared.wrong.Wrong.{Wrong}
 use Rattle.cd_tokens.specs.declared.wrong.Wrong.TheVariants.{Outside}
 use Rattle.cd_tokens.specs.declared.sums.Variable.{Variable}
-use Rattle.cd_tokens.specs.Wrongs.{both}
 use Rattle.cd_tokens.specs.Sums.{expression, is_dot, bounds_at}
 use Rattle.cd_tokens.specs.Names.{name}
 use Rattle.cd_parse.specs.Ranges.{whole, region_from, region_named, region_in, some_words, one_place, one_word, is_opening, bracketed, index_in, part_at, part_in, range_at, range_in, place_at, place_in}
 use Rattle.cd_parse.specs.Sound.{IsRangeOf, IsPlaceOf}
-use Rattle.cd_parse.proofs.SoundGuards.{Bound, bound, both_ok, same_ok, if_ok, if_else_err}
+use Rattle.cd_parse.proofs.SoundGuards.{Bound, bound, from_both, same_ok, if_ok, if_else_err}
 use Rattle.cd_parse.proofs.SoundLists.{push_old}
-use Rattle.cd_parse.proofs.SoundRanges.{HavePlaces}
+
+abbrev pub HavePlaces : List Region → Type 0
+HavePlaces regions = All (λ (region : Region). 0 < region.length) regions
 
 -- all words of a region of the list
 record IsWhole (regions : List Region) (at : ℕ) (r : Range) : Type 0 where
@@ -107,10 +108,8 @@ index_known : (variables : List Variable) (regions : List Region) (region : List
     → index_in variables regions region index ≡ Ok p → IsPlaceOf regions p
 index_known variables regions region None p some is = absurd (cc)
 index_known variables regions region (Some index) p some is =
-    let parts : Bound (Range × ℕ) Place Wrong (both (region_in variables regions region) (expression variables index)) (λ q. one_place q.0 q.1) p =
-    bound (Range × ℕ) Place Wrong (both (region_in variables regions region) (expression variables index)) (λ q. one_place q.0 q.1) p is in
-    let tests = both_ok Range ℕ (region_in variables regions region) (expression variables index) parts.value parts.is in
-    one_place_known regions parts.value.0 parts.value.1 p (region_in_whole variables regions region parts.value.0 some tests.0) parts.next
+    from_both Range ℕ Place (IsPlaceOf regions p) (region_in variables regions region) (expression variables index) (λ q. one_place q.0 q.1) p
+    (λ from i named _. one_place_known regions from i p (region_in_whole variables regions region from some named)) is
 
 one_word_known : (regions : List Region) (from : Range) (index : ℕ) (r : Range) → IsWhole regions 0 from → one_word from index ≡ Ok r
     → IsRangeOf regions r
@@ -126,16 +125,12 @@ one_word_known regions from index r all is =
 part_known : (variables : List Variable) (regions : List Region) (region numbers : List ℕ) (at : Option ℕ) (r : Range) → HavePlaces regions
     → part_at variables regions region numbers at ≡ Ok r → IsRangeOf regions r
 part_known variables regions region numbers None r some is =
-    let parts : Bound (Range × ℕ) Range Wrong (both (region_in variables regions region) (expression variables numbers)) (λ p. one_word p.0 p.1) r =
-    bound (Range × ℕ) Range Wrong (both (region_in variables regions region) (expression variables numbers)) (λ p. one_word p.0 p.1) r is in
-    let tests = both_ok Range ℕ (region_in variables regions region) (expression variables numbers) parts.value parts.is in
-    one_word_known regions parts.value.0 parts.value.1 r (region_in_whole variables regions region parts.value.0 some tests.0) parts.next
+    from_both Range ℕ Range (IsRangeOf regions r) (region_in variables regions region) (expression variables numbers) (λ p. one_word p.0 p.1) r
+    (λ from i named _. one_word_known regions from i r (region_in_whole variables regions region from some named)) is
 part_known variables regions region numbers (Some at) r some is =
-    let ends : Result (ℕ × ℕ) Wrong = bounds_at variables numbers (Some at) in
-    let parts : Bound (Range × (ℕ × ℕ)) Range Wrong (both (region_in variables regions region) ends) (λ p. some_words p.0 p.1.0 p.1.1) r =
-    bound (Range × (ℕ × ℕ)) Range Wrong (both (region_in variables regions region) ends) (λ p. some_words p.0 p.1.0 p.1.1) r is in
-    let tests = both_ok Range (ℕ × ℕ) (region_in variables regions region) ends parts.value parts.is in
-    some_words_known regions parts.value.0 parts.value.1.0 parts.value.1.1 r (region_in_whole variables regions region parts.value.0 some tests.0) parts.next
+    from_both Range (ℕ × ℕ) Range (IsRangeOf regions r) (region_in variables regions region) (bounds_at variables numbers (Some at))
+    (λ p. some_words p.0 p.1.0 p.1.1) r
+    (λ from ends named _. some_words_known regions from ends.0 ends.1 r (region_in_whole variables regions region from some named)) is
 
 part_in_known : (variables : List Variable) (regions : List Region) (region : List ℕ) (numbers : Option (List ℕ)) (r : Range) → HavePlaces regions
     → part_in variables regions region numbers ≡ Ok r → IsRangeOf regions r

@@ -4,6 +4,7 @@ use Rattle.cd_tree.specs.Limits.{items_limit, members_limit, depth_limit, entrie
 use Rattle.cd_tree.specs.declared.domain.NodeId.{NodeId}
 use Rattle.cd_tree.specs.declared.domain.Domain.{Domain}
 use Rattle.cd_tree.specs.declared.refusal.Which.TheVariants as which
+use Rattle.cd_tree.proofs.ShapeTests.{shape_says}
 use Rattle.cd_tokens.specs.declared.sums.Variable.{Variable}
 use Rattle.cd_parse.specs.declared.draft.Level.{Level}
 use Rattle.cd_parse.specs.Draft.{DraftModel, takes_domains, add_domain, parent_of}
@@ -12,7 +13,6 @@ use Rattle.cd_parse.specs.Statements.{statement_in}
 use Rattle.cd_parse.specs.Sound.{IsSound}
 use Rattle.cd_parse.proofs.SoundGuards.{room_ok}
 use Rattle.cd_parse.proofs.SoundDomains.{no_child}
-use Rattle.cd_parse.proofs.SoundOps.{shape_of}
 use Rattle.cd_parse.proofs.SoundChanges.{at_levels, in_domain, op_is_sound, group_is_sound, closed_group_is_sound, entry_is_sound}
 use Rattle.cd_parse.proofs.SoundBegins.{Begins, domain_in_body_is_sound, domain_in_group_is_sound, root_is_sound, ended_is_sound}
 use Rattle.cd_parse.proofs.SoundHeads.{Empty, empty_at_regions, first_is_sound, second_is_sound, kind_is_sound, region_is_sound, faults_are_sound, fault_is_sound}
@@ -66,7 +66,7 @@ sound_changes =
       entry = λ draft at outer range how sound _ found.
           entry_is_sound draft at None outer (entry_of range how) sound found.full
           (λ domain is. subst (λ (there : Option Domain). entries_of there < entries_limit) is found.room) found.few;
-      op = λ draft at outer op sound _ found. op_is_sound draft at outer op sound found.full (shape_of op found.fit) found.room;
+      op = λ draft at outer op sound _ found. op_is_sound draft at outer op sound found.full ((shape_says op).0 found.fit) found.room;
       group = λ draft at outer sound _ few. group_is_sound draft at outer sound few;
       group_end = λ draft at first members outer sound _. closed_group_is_sound draft at (first ∷ members) outer sound (omega arith);
       domain_end = λ draft at outer sound _. ended_is_sound draft at outer sound;

@@ -56,7 +56,7 @@ tiles_split ends low (id ∷ ids) others high (here, some, tiles) =
 
 -- ---- views
 
--- a view behind which as many numbers follow as `ends` says, and as deep as `deep` leaves
+-- a view after which as many numbers follow as `ends` says, and as deep as `deep` leaves
 pub record Met (ends deep : ℕ → ℕ) (at : ℕ) (view : Node) : Type 0 where
   pub numbers : node_numbers view ≡ numbers_from at (ends at - at)
   pub depth : node_depth view + deep at ≤ 17

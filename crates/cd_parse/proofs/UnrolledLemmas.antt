@@ -10,20 +10,20 @@ use Rattle.cd_parse.specs.Draft.{DraftModel, no_draft, document_of}
 use Rattle.cd_parse.specs.Parsing.{counted, taken, Loop, loop_in, variable_of, turns, all_turns, looped, read, ended, parse}
 use Rattle.cd_parse.specs.Unrolled.{Step, turn_steps, loop_steps, steps, step_taken, in_order, text_steps, document_by}
 
--- ---- one thing behind another
+-- ---- one thing after another
 
--- what goes on in the same way behind a first step, goes on in the same way
+-- what goes on in the same way after a first step, goes on in the same way
 alike : (first : Result DraftModel Refusal) (f g : DraftModel → Result DraftModel Refusal) → ((draft : DraftModel) → f draft ≡ g draft) → (first >>= f) ≡ (first >>= g)
 alike (Ok draft) f g same = same draft
 alike (Err refusal) f g same = refl
 
--- what falls into two parts behind a first step, is the first part behind that step, and then the second
+-- what falls into two parts after a first step, is the first part after that step, and then the second
 parted : (first : Result DraftModel Refusal) (f g h : DraftModel → Result DraftModel Refusal) → ((draft : DraftModel) → f draft ≡ (g draft >>= h))
     → (first >>= f) ≡ ((first >>= g) >>= h)
 parted (Ok draft) f g h same = same draft
 parted (Err refusal) f g h same = refl
 
--- steps behind steps
+-- steps after steps
 both_in_order : (first second : List Step) (draft : DraftModel) → in_order (first ++ second) draft ≡ (in_order first draft >>= in_order second)
 both_in_order [] second draft = refl
 both_in_order (step ∷ rest) second draft =
@@ -35,7 +35,7 @@ both_in_order (step ∷ rest) second draft =
 abbrev Takes : (List Variable → DraftModel → Result DraftModel Refusal) → (List Variable → List Step) → Type 0
 Takes body all = (variables : List Variable) (draft : DraftModel) → body variables draft ≡ in_order (all variables) draft
 
--- the steps of a body, and what goes on behind them
+-- the steps of a body, and what goes on after them
 behind_body : (body : Result DraftModel Refusal) (all more : List Step) (rest : DraftModel → Result DraftModel Refusal) (draft : DraftModel)
     → body ≡ in_order all draft → ((next : DraftModel) → rest next ≡ in_order more next) → in_order (all ++ more) draft ≡ (body >>= rest)
 behind_body body all more rest draft is goes =

@@ -37,7 +37,7 @@ loops_anywhere : parse (codes "for a in 0..1\ncd 1\nfor b in 0..1\nregion y 4 co
 unfolding parse read taken loop_in looped statement_in statement operation_in with_op cd_in region_statement with_region domain_in with_domain preserve_in how_in with_entry_of end_in op_in fill_in range_in region_in pattern kind_set kind name bounds expression plus term times atom marked_lines
 loops_anywhere = refl
 
--- a root that stands in a loop without turns is missing behind the last line
+-- a root that stands in a loop without turns is missing after the last line
 no_root : parse (codes "cd 1\nfor a in 1..1\ndomain root retry 1 detects none\nend\nend\n") ≡ Err (Line 6)
 unfolding parse read taken loop_in looped statement_in statement cd_in bounds expression plus term times atom marked_lines
 no_root = refl

@@ -9,7 +9,7 @@ use Rattle.cd_parse.specs.Heads.{cd_in}
 use Rattle.cd_parse.specs.Statements.{statement, statement_in}
 use Rattle.cd_parse.specs.Parsing.{taken, loop_in, looped, read, parse}
 
--- each turn counts one: of an empty loop the 65,536th is the first that has no room, behind one statement
+-- each turn counts one: of an empty loop the 65,536th is the first that has no room, after one statement
 turns_count : parse (codes "cd 1\nfor a in 0..70000\nend\n") ≡ Err (Limit Lines 65537)
 unfolding parse read taken loop_in looped statement_in statement cd_in bounds expression plus term times atom marked_lines
 turns_count = refl

@@ -24,7 +24,7 @@ nested : text_steps (codes "for a in 0..2\nfor b in a..2\nx\nend\nend\n") ≡
 unfolding marked_lines steps loop_in bounds expression plus term times atom
 nested = refl
 
--- the inner loop's line is refused in the second turn of the outer; what stands behind is none the less a step
+-- the inner loop's line is refused in the second turn of the outer; what stands after is none the less a step
 refused_in_a_turn : text_steps (codes "for a in 0..2\nfor b in 0..1-2*a\nx\nend\nend\ny\n") ≡
     Ok (turn ∷ turn ∷ token (two 0 0) 3 (codes "x") ∷ turn ∷ refused (Arithmetic 2) ∷ token [] 6 (codes "y") ∷ [])
 unfolding marked_lines steps loop_in bounds expression plus term times atom

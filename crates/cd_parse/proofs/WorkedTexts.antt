@@ -43,7 +43,7 @@ abbrev pub with_fifth : List ℕ → List ℕ
 with_fifth fifth =
     codes "cd 1\nregion y 4 const 0\ndomain root retry 2 detects flip\npreserve y copy\n" ++ fifth ++ codes "\nend\n"
 
--- the same with these lines behind its end
+-- the same with these lines after its end
 abbrev pub with_more : List ℕ → List ℕ
 with_more more = with_fifth (codes "fill y 7") ++ more
 

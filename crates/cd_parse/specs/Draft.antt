@@ -170,7 +170,7 @@ abbrev pub close_group : ℕ → List NodeId → List Level → DraftModel → D
 close_group at members outer draft =
     record draft { domains = changed at (with_item (Group members)) draft.domains; levels = level_of at None ∷ outer }
 
--- behind the end of the root the program is closed
+-- after the end of the root the program is closed
 abbrev pub stage_behind : List Level → Stage
 stage_behind [] = Closed
 stage_behind (level ∷ outer) = Root

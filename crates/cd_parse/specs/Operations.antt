@@ -1,11 +1,11 @@
 -- Operations: their parts by the tokens after their names, and which lengths and ranges fit.
-use Rattle.std.specs.Prelude.{ℕ, ◌+◌, Bool, true, ◌&&◌, ◌||◌, not, nat_le, ◌==◌, List, [], ◌∷◌, Result, Ok, Err, if◌then◌else◌}
+use Rattle.std.specs.Prelude.{ℕ, Bool, ◌||◌, List, [], ◌∷◌, Result, Ok, Err, if◌then◌else◌}
 use Rattle.std.specs.Str.{bytes_eq}
 use Rattle.cd_base.specs.declared.place.Range.{Range}
 use Rattle.cd_tree.specs.declared.document.Region.{Region}
 use Rattle.cd_tree.specs.declared.operation.Op.{Op}
 use Rattle.cd_tree.specs.declared.operation.Op.TheVariants.{Fill, Copy, Add, Sub, Mul, Axpy, Scan, Sum, Dot, Max, Stencil, Spmv}
-use Rattle.cd_tree.specs.Operations.{length_of}
+use Rattle.cd_tree.specs.Operations.{fits_shape}
 use Rattle.cd_tokens.specs.declared.wrong.Wrong.{Wrong}
 use Rattle.cd_tokens.specs.declared.wrong.Wrong.TheVariants.{Form}
 use Rattle.cd_tokens.specs.declared.sums.Variable.{Variable}
@@ -98,45 +98,6 @@ op_in variables regions keyword tokens =
 
 -- ---- lengths and ranges
 
-abbrev pub is_same : Range → Range → Bool
-is_same d x = (d.region == x.region) && ((d.low == x.low) && (d.high == x.high))
-
--- two ranges, each with a place, have none in common
-abbrev pub is_apart : Range → Range → Bool
-is_apart d x = not (d.region == x.region) || (nat_le d.high x.low || nat_le x.high d.low)
-
--- a source of the destination's length that is the destination itself, or apart from it
-abbrev pub is_in_step : Range → Range → Bool
-is_in_step d x = (length_of x == length_of d) && (is_same x d || is_apart d x)
-
--- one word that is no word of the source
-abbrev pub is_sum : Range → Range → Bool
-is_sum d x = (length_of d == 1) && is_apart d x
-
-abbrev pub is_dot : Range → Range → Range → Bool
-is_dot d x z = (length_of d == 1) && ((length_of x == length_of z) && (is_apart d x && is_apart d z))
-
-abbrev pub is_stencil : Range → Range → Bool
-is_stencil d x = (length_of x == length_of d + 2) && is_apart d x
-
-abbrev pub are_apart : Range → Range → Range → Bool
-are_apart d x z = is_apart d x && is_apart d z
-
-abbrev pub is_spmv : Range → Range → Range → Range → Range → Bool
-is_spmv d s c v x =
-    ((length_of s == length_of d + 1) && (length_of c == length_of v)) && are_apart d s c && are_apart d v x
-
--- the lengths and ranges are those that the operation must have
+-- the lengths and ranges are those that an operation must have, as the rule of the tree says
 abbrev pub fits : Op → Bool
-fits (Fill d k) = true
-fits (Copy d x) = is_in_step d x
-fits (Add d x z) = is_in_step d x && is_in_step d z
-fits (Sub d x z) = is_in_step d x && is_in_step d z
-fits (Mul d x z) = is_in_step d x && is_in_step d z
-fits (Axpy d k x) = is_in_step d x
-fits (Scan d x) = is_in_step d x
-fits (Sum d x) = is_sum d x
-fits (Dot d x z) = is_dot d x z
-fits (Max d x) = is_sum d x
-fits (Stencil d a b c x) = is_stencil d x
-fits (Spmv d s c v x) = is_spmv d s c v x
+fits op = fits_shape op

@@ -92,7 +92,7 @@ read (repeats line body rest) variables draft =
 
 -- ---- the whole text
 
--- behind the last statement the root is closed, else something is missing behind the last line
+-- after the last statement the root is closed, else something is missing after the last line
 abbrev pub ended : ℕ → DraftModel → Result DraftModel Refusal
 ended number draft = if may_end draft.stage then Ok draft else Err (refusal.Line number)
 

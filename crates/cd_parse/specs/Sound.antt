@@ -101,7 +101,7 @@ abbrev pub EachLevel : (ℕ → ℕ) → List Domain → List Level → Type 0
 EachLevel deep domains [] = Unit {0}
 EachLevel deep domains (level ∷ outer) = IsLevel deep domains level outer × EachLevel deep domains outer
 
--- with `ends at` the number behind the last that stands below a domain that is closed, and `deep at` how deep a domain
+-- with `ends at` the number after the last that stands below a domain that is closed, and `deep at` how deep a domain
 -- stands: the domains so far are met in preorder, not too many inside each other
 pub record IsWalk (ends deep : ℕ → ℕ) (domains : List Domain) (levels : List Level) : Type 0 where
   pub walked : IsWalkedTo ends domains levels

@@ -1,8 +1,9 @@
 -- What the functions of parsing answer.
-use Rattle.std.specs.Prelude.{◌≡◌, ℕ, List, [], ◌∷◌, ◌++◌, drop, Result, Ok, Err}
+use Rattle.std.specs.Prelude.{◌≡◌, ℕ, ◌≤◌, List, [], ◌∷◌, ◌++◌, length, drop, Result, Ok, Err}
 use Rattle.cd_tokens.specs.declared.lines.Line.{Line}
 use Rattle.cd_tokens.specs.declared.sums.Variable.{Variable}
 use Rattle.cd_tokens.specs.Blocks.{here, blocks}
+use Rattle.cd_tokens.specs.Layouts.{IsTable}
 use Rattle.cd_tree.specs.declared.refusal.Refusal.{Refusal}
 use Rattle.cd_parse.specs.Draft.{DraftModel}
 use Rattle.cd_tree.specs.declared.refusal.Refuse.{Refuse}
@@ -10,6 +11,7 @@ use Rattle.cd_tokens.specs.declared.wrong.Wrong.{Wrong}
 use Rattle.cd_tokens.specs.Wrongs.{◌>>=◌}
 use Rattle.cd_tokens.specs.Steps.{Refuses}
 use Rattle.cd_parse.specs.declared.parsing.Header.{Header}
+use Rattle.cd_parse.specs.Sound.{IsSound}
 use Rattle.cd_parse.specs.Parsing.{Loop, loop_in, variable_of, counted, read}
 
 -- a loop as the code has it
@@ -19,6 +21,10 @@ loop_as header = record { variable = header.variable.now; low = header.low; high
 abbrev pub ReadsLoop : List Variable → List (List ℕ) → Result Header Wrong → Type 0
 ReadsLoop variables tokens (Ok header) = loop_in variables tokens ≡ Ok (loop_as header)
 ReadsLoop variables tokens (Err wrong) = loop_in variables tokens ≡ Err wrong
+
+-- parsing may go on at this line: the table says where blocks go on, the line is there or is the end, and the draft is sound
+abbrev pub MayGoOn : List Line → List ℕ → ℕ → DraftModel → Type 0
+MayGoOn lines after from draft = IsTable lines after 0 × (from ≤ length lines) × IsSound draft
 
 -- parsing from this line on, to the end of its block
 abbrev pub read_from : List Line → ℕ → List Variable → DraftModel → Result DraftModel Refusal

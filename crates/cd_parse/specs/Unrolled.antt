@@ -55,6 +55,6 @@ in_order (step ∷ rest) draft = step_taken step draft >>= in_order rest
 abbrev pub text_steps : List ℕ → Result (List Step) Refusal
 text_steps bytes = marked_lines bytes >>= λ ls. Ok (steps (here (blocks ls)) [])
 
--- the document that steps make from nothing, if the root is closed behind them; `number` is that of the line behind the last
+-- the document that steps make from nothing, if the root is closed after them; `number` is that of the line after the last
 abbrev pub document_by : ℕ → List Step → Result Document Refusal
 document_by number all = in_order all no_draft >>= ended number >>= λ draft. Ok (document_of draft)

@@ -76,14 +76,14 @@ IsReadOp regions (Spmv d s c v x) =
 
 -- ---- kinds, regions, domains and strikes
 
--- these kinds behind others: each with a base of its own for a name, which is not `none`
+-- these kinds after others: each with a base of its own for a name, which is not `none`
 abbrev pub AreReadKinds : List KindName → List KindName → Type 0
 AreReadKinds before [] = Unit {0}
 AreReadKinds before (kind ∷ kinds) =
     (is_base kind.name ≡ true) × (kind.name ≢ codes "none") × (length kind.name ≤ name_limit) × (has_kind_named before kind.name ≡ false)
     × AreReadKinds (before ++ kind ∷ []) kinds
 
--- these regions behind others with so many words: each with a base of its own for a name, and a word
+-- these regions after others with so many words: each with a base of its own for a name, and a word
 abbrev pub AreReadRegions : List Region → ℕ → List Region → Type 0
 AreReadRegions before words [] = Unit {0}
 AreReadRegions before words (region ∷ regions) =

@@ -19,15 +19,15 @@ use std::marker::Model;
 pub(crate) enum Stage {
     /// Nothing is said yet.
     Start,
-    /// Behind `cd 2`: kinds, regions or the root may follow.
+    /// After `cd 2`: kinds, regions or the root may follow.
     Kinds,
-    /// Behind `cd 1`, or behind a region: regions or the root may follow.
+    /// After `cd 1`, or after a region: regions or the root may follow.
     Regions,
     /// In the root.
     Root,
-    /// Behind the root.
+    /// After the root.
     Closed,
-    /// Behind `faults`.
+    /// After `faults`.
     Strikes,
 }
 

@@ -11,7 +11,6 @@ ghost use Rattle.cd_parse.specs.Rooms.{HaveRoom};
 ghost use Rattle.cd_parse.specs.Heads.{name_fits, begun, cd_in, short_how, long_how, how_in, with_entry_of, preserve_in, faults_in, is_kind_name, with_kind_named, kind_in, room_for_domain, words_fit, region_of, with_region, regioned, region_statement, time_in, damage_in, with_fault, struck, strike_in, group_in, end_in, has_domain_form, retry_fits, domain_named, with_domain, domained, domain_in};
 
 use crate::draft::{Draft, Stage};
-use crate::operations::fits;
 use crate::ranges::Scope;
 use cd_base::{Bytes, Items, NoMemory, Pattern, Place, Range, Text};
 use cd_tokens::{
@@ -19,7 +18,8 @@ use cd_tokens::{
     pattern, room, text_of,
 };
 use cd_tree::{
-    Domain, Entry, How, Item, Kind, KindName, Kinds, NodeId, Op, RawFault, Region, Which, limits,
+    Domain, Entry, How, Item, Kind, KindName, Kinds, NodeId, Op, RawFault, Region, Which, fits,
+    limits,
 };
 use std::alloc::Global;
 

@@ -1,7 +1,6 @@
-//! Operations: their operands by the tokens after their names, and which lengths and ranges fit.
+//! Operations: their operands by the tokens after their names.
 ghost use Rattle.std.specs.Prelude.{◌≡◌, ◌<◌, ◌^◌, length};
-ghost use Rattle.cd_parse.specs.Operations.{two_ranges, three_ranges, fill_in, axpy_in, weights, stencil_of, stencil_in, spmv_of, spmv_in, short_op, long_op, is_short, is_long, op_in, is_same, is_apart, is_in_step, is_sum, is_dot, is_stencil, are_apart, is_spmv, fits};
-ghost use Rattle.cd_tree.specs.Operations.{length_of};
+ghost use Rattle.cd_parse.specs.Operations.{two_ranges, three_ranges, fill_in, axpy_in, weights, stencil_of, stencil_in, spmv_of, spmv_in, short_op, long_op, is_short, is_long, op_in};
 
 use crate::ranges::Scope;
 use crate::signature::OpName;
@@ -217,80 +216,5 @@ impl Scope<'_> {
         } else {
             Err(Wrong::Form)
         }
-    }
-}
-
-fn is_same(d: Range, x: Range) -> bool
-    ensures { result ≡ is_same d x }
-{
-    d.region == x.region && (d.low == x.low && d.high == x.high)
-}
-
-// Two ranges, each with a place, have none in common.
-fn is_apart(d: Range, x: Range) -> bool
-    ensures { result ≡ is_apart d x }
-{
-    d.region != x.region || (d.high <= x.low || x.high <= d.low)
-}
-
-fn length_of(range: Range) -> u64
-    ensures { result ≡ length_of range }
-{
-    u64::from(range.high.saturating_sub(range.low))
-}
-
-// A source of the destination's length that is the destination itself, or apart from it.
-fn is_in_step(d: Range, x: Range) -> bool
-    ensures { result ≡ is_in_step d x }
-{
-    length_of(x) == length_of(d) && (is_same(x, d) || is_apart(d, x))
-}
-
-// One word that is no word of the source.
-fn is_sum(d: Range, x: Range) -> bool
-    ensures { result ≡ is_sum d x }
-{
-    length_of(d) == 1 && is_apart(d, x)
-}
-
-fn is_dot(d: Range, x: Range, z: Range) -> bool
-    ensures { result ≡ is_dot d x z }
-{
-    length_of(d) == 1 && (length_of(x) == length_of(z) && (is_apart(d, x) && is_apart(d, z)))
-}
-
-fn is_stencil(d: Range, x: Range) -> bool
-    ensures { result ≡ is_stencil d x }
-{
-    length_of(x) == length_of(d) + 2 && is_apart(d, x)
-}
-
-fn is_spmv(d: Range, s: Range, c: Range, v: Range, x: Range) -> bool
-    ensures { result ≡ is_spmv d s c v x }
-{
-    let lengths = length_of(s) == length_of(d) + 1 && length_of(c) == length_of(v);
-    lengths && are_apart(d, s, c) && are_apart(d, v, x)
-}
-
-fn are_apart(d: Range, s: Range, c: Range) -> bool
-    ensures { result ≡ are_apart d s c }
-{
-    is_apart(d, s) && is_apart(d, c)
-}
-
-/// Whether the lengths and ranges are those that the operation must have. It takes no memory.
-pub(crate) fn fits(op: &Op) -> bool
-    ensures { result ≡ fits op.now }
-{
-    match *op {
-        Op::Fill(..) => true,
-        Op::Copy(d, x) | Op::Scan(d, x) | Op::Axpy(d, _, x) => is_in_step(d, x),
-        Op::Add(d, x, z) | Op::Sub(d, x, z) | Op::Mul(d, x, z) => {
-            is_in_step(d, x) && is_in_step(d, z)
-        }
-        Op::Sum(d, x) | Op::Max(d, x) => is_sum(d, x),
-        Op::Dot(d, x, z) => is_dot(d, x, z),
-        Op::Stencil(d, _, _, _, x) => is_stencil(d, x),
-        Op::Spmv(d, s, c, v, x) => is_spmv(d, s, c, v, x),
     }
 }

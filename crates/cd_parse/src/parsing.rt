@@ -1,12 +1,11 @@
 //! The parsing of a text: its statements and the turns of its loops, in order.
-ghost use Rattle.std.specs.Prelude.{◌≡◌, ◌+◌, ◌<◌, ◌≤◌, ◌&&◌, length, IfOk, OnOk, codes, bytes_eq};
+ghost use Rattle.std.specs.Prelude.{◌≡◌, ◌+◌, ◌≤◌, ◌&&◌, length, IfOk, OnOk, codes, bytes_eq};
 ghost use Rattle.cd_tree.specs.Limits.{text_limit};
 ghost use Rattle.cd_tokens.specs.Steps.{Reads, Answers};
-ghost use Rattle.cd_tokens.specs.Layouts.{IsTable};
 ghost use Rattle.cd_tokens.specs.Sums.{is_base};
 ghost use Rattle.cd_parse.specs.Parsing.{taken, looped, all_turns, is_variable, loop_limits, bounds_part, loop_bounds, ended, draft_of};
 ghost use Rattle.cd_parse.specs.Sound.{IsSound};
-ghost use Rattle.cd_parse.specs.Turns.{read_from, turn_from, loop_as, ReadsLoop, ReadsTurn};
+ghost use Rattle.cd_parse.specs.Turns.{MayGoOn, read_from, turn_from, loop_as, ReadsLoop, ReadsTurn};
 
 use crate::draft::Draft;
 use crate::statements::statement;
@@ -125,9 +124,7 @@ fn block(
     variables: &mut Vec<Variable>,
     draft: &mut Draft,
 ) -> Result<(), Refuse>
-    requires table { IsTable lines.now after.now 0 }
-    requires from { from ≤ length lines.now }
-    requires sound { IsSound draft.old }
+    requires { MayGoOn lines.now after.now from draft.old }
     ensures exact { Reads draft.new result (read_from lines.now from variables.old.items draft.old) }
     ensures same { OnOk result (variables.new.items ≡ variables.old.items) }
 {
@@ -165,9 +162,7 @@ fn repeat(
     variables: &mut Vec<Variable>,
     draft: &mut Draft,
 ) -> Result<(), Refuse>
-    requires table { IsTable lines.now after.now 0 }
-    requires at { at < length lines.now }
-    requires sound { IsSound draft.old }
+    requires { MayGoOn lines.now after.now (at + 1) draft.old }
     ensures exact { Reads draft.new result (looped (read_from lines.now (at + 1)) variables.old.items line.now draft.old) }
     ensures same { OnOk result (variables.new.items ≡ variables.old.items) }
 {
@@ -188,9 +183,7 @@ fn all_turns(
     variables: &mut Vec<Variable>,
     draft: &mut Draft,
 ) -> Result<(), Refuse>
-    requires table { IsTable lines.now after.now 0 }
-    requires from { from ≤ length lines.now }
-    requires sound { IsSound draft.old }
+    requires { MayGoOn lines.now after.now from draft.old }
     ensures exact { Reads draft.new result (all_turns (read_from lines.now from) variables.old.items (loop_as header.entry) draft.old) }
     ensures same { OnOk result (variables.new.items ≡ variables.old.items) }
 {
@@ -222,9 +215,7 @@ fn turn(
     variables: &mut Vec<Variable>,
     draft: &mut Draft,
 ) -> Result<Bytes, Refuse>
-    requires table { IsTable lines.now after.now 0 }
-    requires from { from ≤ length lines.now }
-    requires sound { IsSound draft.old }
+    requires { MayGoOn lines.now after.now from draft.old }
     ensures exact { ReadsTurn draft.new name result (turn_from lines.now from variables.old.items name value draft.old) }
     ensures same { OnOk result (variables.new.items ≡ variables.old.items) }
 {

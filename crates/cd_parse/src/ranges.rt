@@ -119,15 +119,12 @@ fn one_place(region: Range, index: u64) -> Result<Place, Wrong>
 fn one_word(region: Range, index: u64) -> Result<Range, Wrong>
     ensures { result ≡ one_word region index }
 {
-    if index < u64::from(region.high) {
-        Ok(Range {
-            region: region.region,
-            low: index as u32,
-            high: index as u32 + 1,
-        })
-    } else {
-        Err(Wrong::Outside)
-    }
+    let place = one_place(region, index)?;
+    Ok(Range {
+        region: place.region,
+        low: place.index,
+        high: place.index + 1,
+    })
 }
 
 // What stands before a `]` that ends a token.

@@ -28,12 +28,12 @@ block-loop-at-preserved-in-Says t c = record {
 pub block-returns-in-Err-repeat-clause-exact : goal.block-returns-in-Err-repeat-clause-exact
 block-returns-in-Err-repeat-clause-exact t c =
     opens_refused c.args.lines.now c.loop-at.at _ c.index-lines-at.result c.loop-at.variables.items c.loop-at.draft
-    c.in-Err-repeat.refuse _ c.loop-at-test.true c.index-lines-at.is c.in-Opens.is (c.requires.table.each (c.loop-at.at + 1) (omega arith) (omega (arith, c.loop-at-test.true)))
+    c.in-Err-repeat.refuse _ c.loop-at-test.true c.index-lines-at.is c.in-Opens.is (c.requires.0.each (c.loop-at.at + 1) (omega arith) (omega (arith, c.loop-at-test.true)))
     c.loop-at.invariant.left c.in-Err-repeat.ensures.exact
 
 pub block-loop-at-preserved : goal.block-loop-at-preserved
 block-loop-at-preserved t c =
-    let g = c.requires.table.each (c.loop-at.at + 1) (omega arith) (omega (arith, c.loop-at-test.true)) in
+    let g = c.requires.0.each (c.loop-at.at + 1) (omega arith) (omega (arith, c.loop-at-test.true)) in
     record {
       within = g.within;
       later = omega (arith, c.loop-at.invariant.later, g.behind);
