@@ -1,5 +1,5 @@
 -- The tests' domain can be tried, and its words are present after its tries.
-use Rattle.std.proofs.Common.{◌≡◌, ℕ, zero, suc, ◌+◌, ◌<◌, ◌≤◌, Bool, true, false, ◌||◌, ◌==◌, List, [], ◌∷◌, ◌++◌, length, get_or, Option, Some, None, IsSomeAnd, All, unwrap_or, arith, refl, ap, subst, sym, ◌∙◌}
+use Rattle.std.proofs.Common.{◌≡◌, ℕ, zero, suc, ◌+◌, ◌<◌, ◌≤◌, Bool, true, false, ◌||◌, ◌==◌, List, [], ◌∷◌, ◌++◌, length, get_or, Option, Some, None, IsSomeAnd, All, sum_by, unwrap_or, arith, refl, ap, subst, sym, ◌∙◌}
 use Rattle.std.specs.Prelude.{slice_get}
 use Rattle.std.proofs.lemmas.Bool.{and_from, cond-false, cond-true, eq-eqb}
 use Rattle.std.proofs.lemmas.Option.{slice_get_within}
@@ -12,19 +12,23 @@ use Rattle.cd_tree.specs.declared.domain.Item.{Item}
 use Rattle.cd_tree.specs.declared.domain.Item.TheVariants.{Run}
 use Rattle.cd_tree.specs.declared.domain.NodeId.{NodeId}
 use Rattle.cd_tree.specs.declared.operation.Op.TheVariants.{Fill}
-use Rattle.cd_tree.specs.Meaning.{in_entries}
+use Rattle.cd_tree.specs.declared.domain.How.{How}
+use Rattle.cd_tree.specs.declared.domain.How.TheVariants.{Copy}
+use Rattle.cd_tree.specs.Meaning.{entry_need, in_entries}
 use Rattle.cd_tree.specs.Operations.{IsFull}
 use Rattle.cd_field.specs.FieldModel.{FieldModel}
 use Rattle.cd_keep.specs.declared.keep_id.KeepId.{KeepId}
-use Rattle.cd_keep.specs.PassModel.{PassModel, IsPiece, same_id}
+use Rattle.cd_keep.specs.PassModel.{PassModel, HoldsNothing, IsPiece, same_id}
 use Rattle.cd_tries.specs.declared.keep.Keep.{Keep}
 use Rattle.cd_tries.specs.declared.keep.Pieces.{Pieces}
 use Rattle.cd_tries.specs.declared.tries.Course.{Course}
-use Rattle.cd_tries.specs.Fitting.{ArePresentIn, CanRun, CanTry, IsSound, ItemStays, StrikesWithin}
+use Rattle.cd_tries.specs.Fitting.{ArePresentIn, CanPreserve, CanRun, CanTry, IsSound, ItemStays, LinksCover, StrikesWithin}
 use Rattle.cd_tries.specs.Keeping.{AreCut, Cover, EachMeets, KeepsFit, HoldsThese, all_ids}
+use Rattle.cd_tries.specs.Preserving.{IsPreserved}
 use Rattle.cd_tries.specs.Running.{Means, means, Trial, Tried, tried_from, tried_again, tries_from}
 use Rattle.cd_tries.specs.Sample.{sample, sample_entries, sample_pass, sample_keeps, IsSample, HasSample, SampleIsHere, StrikesSample}
 use Rattle.cd_tries.specs.TryLaws.{Stays}
+use Rattle.cd_tries.proofs.KeepsHeld.{preserved_are_held}
 use Rattle.cd_tries.proofs.PieceWords.{some_is}
 use Rattle.cd_base.proofs.BoolLemmas.{by_test, or-none}
 use Rattle.cd_tries.proofs.Staying.{points_keep, runs_still, trying_again_keeps, tries_keep}
@@ -161,3 +165,30 @@ here_again with spare begin m n p course tries is ends =
     let P : FieldModel → Type 0 = λ v. SampleIsHere v in
     subst P (ap (λ (t : Tried). t.field) ends)
     (present_sample with.domain (tries_from with spare begin first).field is rest.present)
+
+-- ---- its entry preserved
+
+abbrev is_copy : How → Type 0
+is_copy Copy = Unit {0}
+is_copy _ = ⊥
+
+sample_can_preserve : (domain : Domain) (links : ℕ → Option Pieces) (m : FieldModel) (p : PassModel) → IsSample domain → SampleIsHere m → p.room ≡ 1
+    → CanPreserve domain links m p
+sample_can_preserve domain links m p is here room =
+    let A : List Entry → Type 0 = λ es. LinksCover p.known links 0 es in
+    let B : List Entry → Type 0 = λ es. sum_by entry_need es ≤ p.room in
+    let C : How → Type 0 = λ how. is_copy how in
+    record {
+      sound = sample_sound domain is;
+      present = sample_present domain m is here;
+      covered = subst A (sym is.entries) ((λ e. absurd (subst C e tt)), tt);
+      room = subst B (sym is.entries) (omega (arith, room));
+    }
+
+-- what is kept of it is all that the pass holds
+pub sample_held : (id : NodeId) (domain : Domain) (links : ℕ → Option Pieces) (keeps all : List Keep) (m n : FieldModel) (p q : PassModel)
+    → IsSample domain → SampleIsHere m → HoldsNothing p → p.room ≡ 1 → IsPreserved id domain links keeps m n p q → all ≡ keeps
+    → HoldsThese q (all_ids all)
+sample_held id domain links keeps all m n p q is here nothing room said same =
+    let P : List Keep → Type 0 = λ ks. HoldsThese q (all_ids ks) in
+    subst P (sym same) ((preserved_are_held id domain links keeps m n p q (sample_can_preserve domain links m p is here room) nothing said).holds)

@@ -39,4 +39,6 @@ mod keep_tests;
 #[cfg(test)]
 mod lapsing;
 #[cfg(test)]
+mod preserve_tests;
+#[cfg(test)]
 mod try_tests;

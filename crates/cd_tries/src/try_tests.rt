@@ -13,7 +13,7 @@ use std::alloc::Global;
 use std::test::Fail;
 
 // A fault of a kind that strikes the first word.
-struct Strike {
+pub(crate) struct Strike {
     begin: u64,
     item: u32,
     kind: u8,
@@ -183,7 +183,7 @@ fn stop_of(end: End) -> Stop {
     }
 }
 
-fn one_operation(alloc: Global) -> Result<Domain, Fail>
+pub(crate) fn one_operation(alloc: Global) -> Result<Domain, Fail>
     ensures { IfOk result (λ domain. IsSample domain) }
 {
     let mut entries = Items::new(alloc);
@@ -258,7 +258,11 @@ fn one_copy(alloc: Global, id: KeepId) -> Result<Vec<Keep>, Fail>
 }
 
 // The machine where the domain's first begin has told of itself, with its words, under a script.
-fn begin_first<F: Field>(alloc: Global, strikes: &[Strike], field: &mut F) -> Result<(), Fail>
+pub(crate) fn begin_first<F: Field>(
+    alloc: Global,
+    strikes: &[Strike],
+    field: &mut F,
+) -> Result<(), Fail>
     ensures here { OnOk result ((F.model field.new).node ≡ record { 0 = 0 }) }
     ensures words { OnOk result (SampleIsHere (F.model field.new)) }
     ensures strikes { OnOk result (StrikesSample (F.model field.new).script) }
