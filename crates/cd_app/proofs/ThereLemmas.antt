@@ -15,7 +15,7 @@ use Rattle.cd_tree.specs.KindSets.{no_kinds, halting}
 use Rattle.cd_tree.specs.TreeModel.{TreeModel}
 use Rattle.cd_check.specs.Checking.{Passes}
 use Rattle.cd_check.specs.There.{IsRefused, DocumentIsJudged}
-use Rattle.cd_core.specs.Single.{OnlyCopies, NeverHalts}
+use Rattle.cd_single.specs.Single.{OnlyCopies, NeverHalts}
 use Rattle.cd_parse.specs.Laws.{ParsedIsWellRead}
 use Rattle.cd_parse.specs.WellRead.{WellRead}
 use Rattle.cd_parse.specs.Reading.{parse}

@@ -1,8 +1,24 @@
-pub mod Places
-pub mod Copying
-pub mod Points
-pub mod Frames
-pub mod Restoring
-pub mod Following
-pub mod Tries
-pub mod Ends
+mod Choices
+mod Strikes
+mod Following
+mod Trying
+mod Judging
+mod Retrying
+mod Rounds
+mod LastTries
+mod Grounds
+mod Beginnings
+mod Keeping
+mod Facts
+mod Coming
+mod Views
+mod ReadyOnes
+mod ResumedOnes
+mod Given
+mod ToGroups
+mod ToEnds
+mod Standing
+mod Arriving
+mod Lapses
+mod Commons
+mod EndsStand

@@ -1,8 +1,11 @@
-//! The engine: it runs a program on a machine, preserves what a domain needs, finds the faults that struck, and restores
-//! and runs again.
+//! The states of domains: a domain that can be put down between two groups and taken up by anybody. A state runs up to its
+//! next group, hands out a state for each member, and takes them back when they have ended.
 #![tactic(auto)]
 
-mod copies;
-mod single;
+mod advance;
+mod resume;
+mod start;
+mod state;
 
-pub use single::run_one;
+pub use start::start_root;
+pub use state::{Ending, NodeState, Outcome, Stage, Step};

@@ -1,0 +1,8 @@
+pub mod Places
+pub mod Copying
+pub mod Points
+pub mod Frames
+pub mod Restoring
+pub mod Following
+pub mod Tries
+pub mod Ends
