@@ -34,7 +34,9 @@ use Rattle.cd_core.specs.StateModel.{StateModel}
 use Rattle.cd_core.specs.Fits.{FitsStage, HasBegun}
 use Rattle.cd_core.specs.Tasks.{Task, LinksAgree, KeepsGive, counts_in, task_reading}
 use Rattle.cd_core.specs.Stands.{Stands, StandsAt, StandsArrived, StandsLost, members_told, named}
-use Rattle.cd_core.specs.Advancing.{own_count, Judged, Verdict, waits, completes, escalates, verdict_of, judged_course, after_loss, means_of, TriesSo, state_behind, ended}
+use Rattle.cd_core.specs.Advancing.{own_count, Judged, verdict_of, judged_course, after_loss, means_of, TriesSo, state_behind, ended}
+use Rattle.cd_core.specs.declared.verdict.Verdict.{Verdict}
+use Rattle.cd_core.specs.declared.verdict.Verdict.TheVariants.{Waits, Completes, Escalates}
 use Rattle.cd_core.specs.StateLaws.{verdict_ending, TriesComeToEnds}
 use Rattle.cd_core.proofs.Facts.{MoreLaws, reach_is, there_and}
 use Rattle.cd_core.proofs.Grounds.{view_in, body_in}
@@ -79,21 +81,21 @@ module _ (l : MoreLaws) (plan : PlanModel) (s : StateModel) (domain : Domain) (i
       → StandsArrived plan t (state_behind plan domain s keeps q begin n (verdict_of plan s.node spare stop)) ending
   by_stop attempt spare begin n (Group point) ending c verdict at last here script number present = absurd (cc)
   by_stop attempt spare begin n (Passed leak) ending c verdict at last here script number present =
-      let S : Ending → Type 0 = λ e. StandsArrived plan t (state_behind plan domain s keeps q begin n (completes leak)) e in
+      let S : Ending → Type 0 = λ e. StandsArrived plan t (state_behind plan domain s keeps q begin n (Completes leak)) e in
       let same : Done leak ≡ ending = cc in
       subst S same (completes_so l plan s domain is_plan listed loaded words counts base links keeps q n attempt spare begin leak at here script number c.based present)
   by_stop attempt spare begin n (Failed kinds) ending c verdict at last here script number present =
       let C : NodeId → Cause = λ i. named plan (blame i kinds) in
-      let S : Ending → Type 0 = λ e. StandsArrived plan t (state_behind plan domain s keeps q begin n (escalates (C s.node) no_kinds)) e in
-      let R : NodeId → Type 0 = λ i. StandsArrived plan t (state_behind plan domain s keeps q begin n (escalates (C i) no_kinds)) (Escalated (C i) no_kinds) in
+      let S : Ending → Type 0 = λ e. StandsArrived plan t (state_behind plan domain s keeps q begin n (Escalates (C s.node) no_kinds)) e in
+      let R : NodeId → Type 0 = λ i. StandsArrived plan t (state_behind plan domain s keeps q begin n (Escalates (C i) no_kinds)) (Escalated (C i) no_kinds) in
       let same : Escalated (C s.node) no_kinds ≡ ending = cc in
       subst S same (subst R here
       (escalates_so l plan s domain is_plan listed loaded words counts base links keeps q n attempt spare begin (failed (blame n.node kinds)) (blame n.node kinds) no_kinds
       at last refl here script number c.based (λ p h. (present p h).known) c.fit refl (root_keeps c.fit c.gives)))
   by_stop attempt spare begin n (Broken kinds over) ending c verdict at last here script number present =
       let C : NodeId → Cause = λ i. named plan (blame i kinds) in
-      let S : Ending → Type 0 = λ e. StandsArrived plan t (state_behind plan domain s keeps q begin n (escalates (C s.node) over)) e in
-      let R : NodeId → Type 0 = λ i. StandsArrived plan t (state_behind plan domain s keeps q begin n (escalates (C i) over)) (Escalated (C i) over) in
+      let S : Ending → Type 0 = λ e. StandsArrived plan t (state_behind plan domain s keeps q begin n (Escalates (C s.node) over)) e in
+      let R : NodeId → Type 0 = λ i. StandsArrived plan t (state_behind plan domain s keeps q begin n (Escalates (C i) over)) (Escalated (C i) over) in
       let same : Escalated (C s.node) over ≡ ending = cc in
       subst S same (subst R here
       (escalates_so l plan s domain is_plan listed loaded words counts base links keeps q n attempt spare begin (broken (blame n.node kinds) over) (blame n.node kinds) over
@@ -128,15 +130,15 @@ module _ (l : MoreLaws) (plan : PlanModel) (s : StateModel) (domain : Domain) (i
 
   stuck : FitsView plan s domain → (spare : ℕ) (cause : Cause) (over : ℕ) → HasBegun domain s → StandsLost plan task s spare cause over
       → ((over == no_kinds) ≡ true → spare ≡ 0) → (ending : Ending) → Escalated cause over ≡ ending
-      → StandsArrived plan task (state_behind plan domain s s.keeps s.pass (own_count s) s.field (escalates cause over)) ending
+      → StandsArrived plan task (state_behind plan domain s s.keeps s.pass (own_count s) s.field (Escalates cause over)) ending
   stuck view spare cause over begun stands last ending is =
       let left : ℕ = kinds_without stands.more domain.detects in
       let base : Counts = (members_told plan task spare stands.point stands.at).counts in
-      let S : Ending → Type 0 = λ e. StandsArrived plan task (state_behind plan domain s s.keeps s.pass (own_count s) s.field (escalates cause over)) e in
+      let S : Ending → Type 0 = λ e. StandsArrived plan task (state_behind plan domain s s.keeps s.pass (own_count s) s.field (Escalates cause over)) e in
       let A : Cause → Type 0 = λ c.
-      StandsArrived plan task (state_behind plan domain s s.keeps s.pass (own_count s) s.field (escalates c over)) (Escalated c over) in
+      StandsArrived plan task (state_behind plan domain s s.keeps s.pass (own_count s) s.field (Escalates c over)) (Escalated c over) in
       let B : ℕ → Type 0 = λ k.
-      StandsArrived plan task (state_behind plan domain s s.keeps s.pass (own_count s) s.field (escalates (named plan stands.blame) k)) (Escalated (named plan stands.blame) k) in
+      StandsArrived plan task (state_behind plan domain s s.keeps s.pass (own_count s) s.field (Escalates (named plan stands.blame) k)) (Escalated (named plan stands.blame) k) in
       let L : ℕ → Type 0 = λ k. (k == no_kinds) ≡ true → spare ≡ 0 in
       subst S is (subst A (sym stands.blamed) (subst B (sym stands.undeclared)
       (escalates_so l plan s domain is_plan listed loaded words counts base links s.keeps s.pass s.field stands.at.attempt spare (own_count s)
@@ -155,12 +157,12 @@ module _ (l : MoreLaws) (plan : PlanModel) (s : StateModel) (domain : Domain) (i
       → StandsArrived plan task (state_behind plan domain s s.keeps s.pass j.begin j.field j.verdict) ending
   lost_to_end view zero cause over b test fits st stands j ending is verdict =
       let G : Judged → Type 0 = λ x. StandsArrived plan task (state_behind plan domain s s.keeps s.pass x.begin x.field x.verdict) ending in
-      let e : verdict_ending (escalates cause over) ≡ Some ending = ap (λ (x : Judged). verdict_ending x.verdict) (sym is) ∙ verdict in
+      let e : verdict_ending (Escalates cause over) ≡ Some ending = ap (λ (x : Judged). verdict_ending x.verdict) (sym is) ∙ verdict in
       let same : Escalated cause over ≡ ending = cc in
       subst G (sym is) (stuck view zero cause over fits.begun stands (λ n. refl) ending same)
   lost_to_end view (suc spare) cause over false test fits st stands j ending is verdict =
       let G : Judged → Type 0 = λ x. StandsArrived plan task (state_behind plan domain s s.keeps s.pass x.begin x.field x.verdict) ending in
-      let e : verdict_ending (escalates cause over) ≡ Some ending = ap (λ (x : Judged). verdict_ending x.verdict) (sym is) ∙ verdict in
+      let e : verdict_ending (Escalates cause over) ≡ Some ending = ap (λ (x : Judged). verdict_ending x.verdict) (sym is) ∙ verdict in
       let same : Escalated cause over ≡ ending = cc in
       subst G (sym is) (stuck view (suc spare) cause over fits.begun stands (λ n. absurd (cc)) ending same)
   lost_to_end view (suc spare) cause over true test fits st stands j ending is verdict =

@@ -26,7 +26,9 @@ use Rattle.cd_core.specs.StateModel.{StateModel}
 use Rattle.cd_core.specs.Fits.{Fits}
 use Rattle.cd_core.specs.Tasks.{Task, LinksGive}
 use Rattle.cd_core.specs.Stands.{Stands, StandsAt, StandsArrived}
-use Rattle.cd_core.specs.Advancing.{Judged, Verdict, waits, completes, escalates, TriesSo, put_back_at_root, state_behind}
+use Rattle.cd_core.specs.Advancing.{Judged, TriesSo, put_back_at_root, state_behind}
+use Rattle.cd_core.specs.declared.verdict.Verdict.{Verdict}
+use Rattle.cd_core.specs.declared.verdict.Verdict.TheVariants.{Waits, Completes, Escalates}
 use Rattle.cd_core.specs.StateLaws.{verdict_ending}
 use Rattle.cd_core.proofs.Arriving.{tries_end}
 use Rattle.cd_core.proofs.Commons.{Common, common}
@@ -58,16 +60,18 @@ up_same : (domain : Domain) (known : Known) (keeps : List Keep) (m : FieldModel)
     → ((gone_up (cond b (refilled_all known domain.entries keeps m) m)).script ≡ m.script)
     × ((gone_up (cond b (refilled_all known domain.entries keeps m) m)).carved ≡ m.carved)
     × (lapses (gone_up (cond b (refilled_all known domain.entries keeps m) m)).events ≡ lapses m.events)
-up_same domain known keeps m true =
-    ((refilled_same known 0 domain.entries keeps m).0, (refilled_same known 0 domain.entries keeps m).1,
-    one_more (refilled_all known domain.entries keeps m).events (Escalate (refilled_all known domain.entries keeps m).node) refl
-    ∙ refilled_lapses known 0 domain.entries keeps m)
+up_same domain known keeps m true = (
+  (refilled_same known 0 domain.entries keeps m).0,
+  (refilled_same known 0 domain.entries keeps m).1,
+  one_more (refilled_all known domain.entries keeps m).events (Escalate (refilled_all known domain.entries keeps m).node) refl
+      ∙ refilled_lapses known 0 domain.entries keeps m,
+)
 up_same domain known keeps m false = (refl, refl, one_more m.events (Escalate m.node) refl)
 
 left_as : (plan : PlanModel) (domain : Domain) (s : StateModel) (keeps : List Keep) (q : PassModel) (begin : ℕ) (m : FieldModel) (v : Verdict) (ending : Ending)
     → verdict_ending v ≡ Some ending → LeftAs plan s q m (state_behind plan domain s keeps q begin m v) ending
-left_as plan domain s keeps q begin m (waits spare point) ending e = absurd (cc)
-left_as plan domain s keeps q begin m (completes leak) ending e =
+left_as plan domain s keeps q begin m (Waits spare point) ending e = absurd (cc)
+left_as plan domain s keeps q begin m (Completes leak) ending e =
     let same : Done leak ≡ ending = cc in
     record {
       stage = ap (λ (x : Ending). Ended x) same;
@@ -79,7 +83,7 @@ left_as plan domain s keeps q begin m (completes leak) ending e =
       gone = (given_up q (all_ids keeps)).0;
       known = (given_up q (all_ids keeps)).1;
     }
-left_as plan domain s keeps q begin m (escalates cause over) ending e =
+left_as plan domain s keeps q begin m (Escalates cause over) ending e =
     let same : Escalated cause over ≡ ending = cc in
     record {
       stage = ap (λ (x : Ending). Ended x) same;

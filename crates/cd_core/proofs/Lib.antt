@@ -22,3 +22,4 @@ mod Arriving
 mod Lapses
 mod Commons
 mod EndsStand
+mod Making

@@ -25,7 +25,9 @@ use Rattle.cd_core.specs.StateModel.{StateModel}
 use Rattle.cd_core.specs.Fits.{Fits, FitsStage}
 use Rattle.cd_core.specs.Tasks.{Task, KeepsGive, task_reading}
 use Rattle.cd_core.specs.Stands.{Stands, StandsAt, StandsReady, StandsLost}
-use Rattle.cd_core.specs.Advancing.{own_count, Judged, Verdict, waits, escalates, after_loss, means_of, BeginsSo, TriesSo, state_sending}
+use Rattle.cd_core.specs.Advancing.{own_count, Judged, after_loss, means_of, BeginsSo, TriesSo, state_sending}
+use Rattle.cd_core.specs.declared.verdict.Verdict.{Verdict}
+use Rattle.cd_core.specs.declared.verdict.Verdict.TheVariants.{Waits, Escalates}
 use Rattle.cd_core.specs.StateLaws.{StandsTried, TriesComeToGroups}
 use Rattle.cd_core.proofs.Facts.{MoreLaws, strikes_within, reach_is}
 use Rattle.cd_core.proofs.Given.{keeps_given}
@@ -48,7 +50,7 @@ task_is l plan t s domain is_plan listed st =
     ap (λ (d : Node). record t { domain = d }) e
     ∙ ap (λ (fs : List Fault). record t { domain = view_in plan.tree s.node domain; faults = fs }) (sym st.script)
 
-never : {cause : Cause} {over spare point : ℕ} → ◌≡◌ {A = Verdict} (escalates cause over) (waits spare point) → ⊥
+never : {cause : Cause} {over spare point : ℕ} → ◌≡◌ {A = Verdict} (Escalates cause over) (Waits spare point) → ⊥
 never e = cc
 
 module _ (l : MoreLaws) (plan : PlanModel) (s : StateModel) (domain : Domain) (is_plan : IsPlan plan) (listed : slice_get plan.tree.domains s.node.0 ≡ Some domain)
@@ -75,7 +77,7 @@ module _ (l : MoreLaws) (plan : PlanModel) (s : StateModel) (domain : Domain) (i
   lost_to_group : FitsView plan s domain → (spare : ℕ) (cause : Cause) (over point more : ℕ) (b : Bool) → (over == no_kinds) ≡ b
       → FitsStage plan (view_in plan.tree s.node domain) domain s (Lost spare cause over) → Stands plan t s → StandsLost plan t s spare cause over
       → (j : Judged) → j ≡ after_loss plan (means_of plan domain s.node s.pass.known s.keeps) spare (own_count s) s.field cause over b
-      → j.verdict ≡ waits more point → StandsTried plan t (state_sending s s.keeps j.begin j.field s.pass) more point
+      → j.verdict ≡ Waits more point → StandsTried plan t (state_sending s s.keeps j.begin j.field s.pass) more point
   lost_to_group view zero cause over point more b test fits st stands j is verdict =
       absurd (never (sym (ap (λ (x : Judged). x.verdict) is) ∙ verdict))
   lost_to_group view (suc spare) cause over point more false test fits st stands j is verdict =
@@ -88,7 +90,7 @@ module _ (l : MoreLaws) (plan : PlanModel) (s : StateModel) (domain : Domain) (i
   -- from wherever it was
   by_stage : FitsView plan s domain → (st : Stands plan t s) → (keeps : List Keep) (q : PassModel) (j : Judged) (spare point : ℕ) (stage : Stage)
       → FitsStage plan (view_in plan.tree s.node domain) domain s stage → StandsAt plan t s stage → TriesSo plan domain s keeps q j stage
-      → j.verdict ≡ waits spare point → StandsTried plan t (state_sending s keeps j.begin j.field q) spare point
+      → j.verdict ≡ Waits spare point → StandsTried plan t (state_sending s keeps j.begin j.field q) spare point
   by_stage view st keeps q j spare point Ready fits stands so verdict =
       let c : Comes plan t s domain keeps q j counts =
       come_ready l plan s domain is_plan listed loaded words counts links view fits (strikes_here st) st.task.small st.task.root stands keeps q j so

@@ -22,7 +22,9 @@ use Rattle.cd_tries.specs.Running.{Tried}
 use Rattle.cd_core.specs.StateModel.{StateModel}
 use Rattle.cd_core.specs.Tasks.{Task, LinksAgree, counts_in, task_case}
 use Rattle.cd_core.specs.Stands.{Stands, AsSent, WaitingFront}
-use Rattle.cd_core.specs.Advancing.{Judged, judged_course, verdict_of, Verdict, waits, completes, escalates, state_sending}
+use Rattle.cd_core.specs.Advancing.{Judged, judged_course, verdict_of, state_sending}
+use Rattle.cd_core.specs.declared.verdict.Verdict.{Verdict}
+use Rattle.cd_core.specs.declared.verdict.Verdict.TheVariants.{Waits, Completes, Escalates}
 use Rattle.cd_core.specs.StateLaws.{StandsTried}
 use Rattle.cd_core.proofs.Choices.{by_test}
 use Rattle.cd_core.proofs.Facts.{MoreLaws, reach_is}
@@ -32,7 +34,7 @@ use Rattle.cd_core.proofs.Judging.{AtGroup, StopsAt}
 use Rattle.cd_core.proofs.ReadyOnes.{task_at, Comes}
 
 -- a verdict that waits is a stop at a group
-pub group_of : (plan : PlanModel) (id : NodeId) (left spare point : ℕ) (stop : Stop) → verdict_of plan id left stop ≡ waits spare point
+pub group_of : (plan : PlanModel) (id : NodeId) (left spare point : ℕ) (stop : Stop) → verdict_of plan id left stop ≡ Waits spare point
     → (stop ≡ Group point) × (left ≡ spare)
 group_of plan id left spare point (Group k) e =
     let same : k ≡ point = cc in (ap (λ (n : ℕ). Group n) same, cc)
@@ -111,12 +113,12 @@ module _ (l : MoreLaws) (plan : PlanModel) (s : StateModel) (domain : Domain) (i
       }
 
   -- a domain whose tries come to a group stands before it
-  pub stands_tried : (j : Judged) (spare point : ℕ) → Comes plan t s domain keeps q j base → j.verdict ≡ waits spare point
+  pub stands_tried : (j : Judged) (spare point : ℕ) → Comes plan t s domain keeps q j base → j.verdict ≡ Waits spare point
       → StandsTried plan t (state_sending s keeps j.begin j.field q) spare point
   stands_tried j spare point c verdict =
       let body : Body = body_in plan.tree domain in
       let halts : ℕ = halting plan.tree.kinds in
-      let v : verdict_of plan s.node c.tried.course.spare c.tried.course.stop ≡ waits spare point =
+      let v : verdict_of plan s.node c.tried.course.spare c.tried.course.stop ≡ Waits spare point =
       sym (ap (λ (x : Judged). x.verdict) c.is) ∙ verdict in
       let g : (c.tried.course.stop ≡ Group point) × (c.tried.course.spare ≡ spare) = group_of plan s.node c.tried.course.spare spare point c.tried.course.stop v in
       let A : Stop → Type 0 = λ x. StopsAt plan.tree loaded halts domain body counts base words (LinksAgree plan t) c.rests.attempt c.tried.course.spare c.tried.field x in

@@ -29,23 +29,20 @@ use Rattle.cd_core.specs.declared.state.Ending.{Ending}
 use Rattle.cd_core.specs.declared.state.Ending.TheVariants.{Done, Escalated}
 use Rattle.cd_core.specs.declared.state.Stage.{Stage}
 use Rattle.cd_core.specs.declared.state.Stage.TheVariants.{Ready, Waiting, Resumed, Lost, Ended}
+use Rattle.cd_core.specs.declared.verdict.Verdict.{Verdict}
+use Rattle.cd_core.specs.declared.verdict.Verdict.TheVariants.{Waits, Completes, Escalates}
 use Rattle.cd_core.specs.StateModel.{StateModel}
 use Rattle.cd_core.specs.Asks.{foot_of, levels_below, counts_of}
 use Rattle.cd_core.specs.Stands.{named}
 
 -- ---- the tries
 
--- what comes of tries: the domain waits at the group of a point, completes with a leak, or escalates
-pub data Verdict : Type 0 where
-  waits : (spare point : ℕ) → Verdict
-  completes : (leak : ℕ) → Verdict
-  escalates : (cause : Cause) (over : ℕ) → Verdict
-
+-- what comes of tries, by what stops the domain
 abbrev pub verdict_of : PlanModel → NodeId → ℕ → Stop → Verdict
-verdict_of plan id spare (Group point) = waits spare point
-verdict_of plan id spare (Passed leak) = completes leak
-verdict_of plan id spare (Failed kinds) = escalates (named plan (blame id kinds)) no_kinds
-verdict_of plan id spare (Broken kinds over) = escalates (named plan (blame id kinds)) over
+verdict_of plan id spare (Group point) = Waits spare point
+verdict_of plan id spare (Passed leak) = Completes leak
+verdict_of plan id spare (Failed kinds) = Escalates (named plan (blame id kinds)) no_kinds
+verdict_of plan id spare (Broken kinds over) = Escalates (named plan (blame id kinds)) over
 
 -- the machine behind the tries, the number of the last begin, and what comes of them
 pub record Judged : Type 0 where
@@ -58,10 +55,10 @@ judged_course plan id t = record { field = t.field; begin = t.course.begin; verd
 
 -- after a try that a member's escalation ended: another, where nothing is left over and one is to spare; else the escalation goes on
 abbrev pub after_loss : PlanModel → Means → ℕ → ℕ → FieldModel → Cause → ℕ → Bool → Judged
-after_loss plan with zero begin m cause over none = record { field = m; begin = begin; verdict = escalates cause over }
+after_loss plan with zero begin m cause over none = record { field = m; begin = begin; verdict = Escalates cause over }
 after_loss plan with (suc spare) begin m cause over true =
     judged_course plan with.node (tries_from with spare (next_begin begin) (tried_again with (next_begin begin) m))
-after_loss plan with (suc spare) begin m cause over false = record { field = m; begin = begin; verdict = escalates cause over }
+after_loss plan with (suc spare) begin m cause over false = record { field = m; begin = begin; verdict = Escalates cause over }
 
 abbrev pub own_count : StateModel → ℕ
 own_count s = slice_index s.counts 0
@@ -148,15 +145,15 @@ ended s keeps q begin m ending = record s {
 
 -- the state behind the call, by what came of the tries
 abbrev pub state_behind : PlanModel → Domain → StateModel → List Keep → PassModel → ℕ → FieldModel → Verdict → StateModel
-state_behind plan domain s keeps q begin m (waits spare point) = record s {
+state_behind plan domain s keeps q begin m (Waits spare point) = record s {
   counts = slice_set s.counts 0 begin;
   stage = Waiting spare point;
   keeps = keeps;
   field = field_behind plan (members_at domain point) m;
   pass = pass_behind plan (members_at domain point) q;
 }
-state_behind plan domain s keeps q begin m (completes leak) = ended s keeps q begin (told m (Complete s.node)) (Done leak)
-state_behind plan domain s keeps q begin m (escalates cause over) =
+state_behind plan domain s keeps q begin m (Completes leak) = ended s keeps q begin (told m (Complete s.node)) (Done leak)
+state_behind plan domain s keeps q begin m (Escalates cause over) =
     ended s keeps q begin (gone_up (put_back_at_root domain q.known keeps m)) (Escalated cause over)
 
 -- the state as its members are sent

@@ -8,10 +8,11 @@ use Rattle.cd_tree.specs.declared.domain.Entry.{Entry}
 use Rattle.cd_tree.specs.declared.domain.Item.TheVariants.{Group}
 use Rattle.cd_tree.specs.declared.domain.Domain.{Domain}
 use Rattle.cd_tree.specs.declared.event.Cause.{Cause}
-use Rattle.cd_tree.specs.Domains.{Node, Body, node, node_of, members_by, node_numbers}
+use Rattle.cd_tree.specs.Domains.{Node, Body, node, node_of, body_of, members_by, node_numbers, body_numbers}
 use Rattle.cd_tree.specs.Legal.{entry_at}
 use Rattle.cd_tree.specs.Meaning.{node_reach, node_need, member_writes}
 use Rattle.cd_tree.specs.Scripts.{IsAccepted, path_of}
+use Rattle.cd_tree.specs.Slices.{among}
 use Rattle.cd_field.specs.FieldModel.{FieldModel, IsPresent}
 use Rattle.cd_keep.specs.PassModel.{PassModel, HoldsNothing}
 use Rattle.cd_cover.specs.Links.{link_of}
@@ -70,8 +71,19 @@ pub record FitsResumed (d : Node) (domain : Domain) (s : StateModel) (spare poin
   pub present : IsHere d s.field
   pub room : s.pass.room + s.pass.held ≡ node_need d
 
+-- a cause is of one of these domains
+pub record IsOneOf (plan : PlanModel) (numbers : List ℕ) (cause : Cause) : Type 0 where
+  pub at : NodeId
+  pub one : among numbers at.0 ≡ true
+  pub path : cause.path ≡ path_of plan.tree.domains at
+
+-- a cause is of a domain or of one of those below it
+abbrev pub IsBlamed : PlanModel → Node → Cause → Type 0
+IsBlamed plan d cause = IsOneOf plan (node_numbers d) cause
+
 -- a domain of whose members one has escalated
-pub record FitsLost (d : Node) (domain : Domain) (s : StateModel) (spare : ℕ) : Type 0 where
+pub record FitsLost (plan : PlanModel) (d : Node) (domain : Domain) (s : StateModel) (spare : ℕ) (cause : Cause) : Type 0 where
+  pub blamed : IsOneOf plan (body_numbers (body_of d)) cause
   pub begun : HasBegun domain s
   pub tries : spare < domain.retry
   pub room : s.pass.room + s.pass.held ≡ node_need d
@@ -81,7 +93,13 @@ abbrev pub IsHereAtEnd : PlanModel → Node → StateModel → Ending → Type 0
 IsHereAtEnd plan d s (Done leak) = IsHere d s.field
 IsHereAtEnd plan d s (Escalated cause over) = (cause.path ≡ path_of plan.tree.domains s.node) ⊎ (s.node.0 ≡ 0) → IsHere d s.field
 
+-- an escalation is blamed on the domain or on one of those below it
+abbrev pub BlamesOwn : PlanModel → Node → Ending → Type 0
+BlamesOwn plan d (Done leak) = Unit {0}
+BlamesOwn plan d (Escalated cause over) = IsBlamed plan d cause
+
 pub record FitsEnded (plan : PlanModel) (d : Node) (s : StateModel) (ending : Ending) : Type 0 where
+  pub blamed : BlamesOwn plan d ending
   pub nothing : KeepsNothing d s
   pub here : s.field.node ≡ s.node
   pub present : IsHereAtEnd plan d s ending
@@ -90,7 +108,7 @@ abbrev pub FitsStage : PlanModel → Node → Domain → StateModel → Stage �
 FitsStage plan d domain s Ready = FitsReady d s
 FitsStage plan d domain s (Waiting spare point) = FitsWaiting plan d domain s spare point
 FitsStage plan d domain s (Resumed spare point) = FitsResumed d domain s spare point
-FitsStage plan d domain s (Lost spare cause over) = FitsLost d domain s spare
+FitsStage plan d domain s (Lost spare cause over) = FitsLost plan d domain s spare cause
 FitsStage plan d domain s (Ended ending) = FitsEnded plan d s ending
 
 -- what a call needs of a state

@@ -6,4 +6,5 @@ pub mod Asks
 pub mod Advancing
 pub mod Resuming
 pub mod Steps
+pub mod Trying
 pub mod StateLaws

@@ -23,7 +23,9 @@ use Rattle.cd_core.specs.Fits.{Fits, IsHere, HasBegun}
 use Rattle.cd_core.specs.Tasks.{Task, counts_in, LinksAgree, LinksGive}
 use Rattle.cd_core.specs.Stands.{Stands, AsSent, WaitingFront, StandsArrived}
 use Rattle.cd_core.specs.Asks.{EachAnswers}
-use Rattle.cd_core.specs.Advancing.{Judged, Verdict, TriesSo, waits, completes, escalates, state_behind, state_sending}
+use Rattle.cd_core.specs.Advancing.{Judged, TriesSo, state_behind, state_sending}
+use Rattle.cd_core.specs.declared.verdict.Verdict.{Verdict}
+use Rattle.cd_core.specs.declared.verdict.Verdict.TheVariants.{Waits, Completes, Escalates}
 use Rattle.cd_core.specs.Resuming.{CanTakeEach, all_done, first_escalation, nodes_of, resumed}
 use Rattle.cd_core.specs.Advancing.{members_at}
 use Rattle.cd_core.specs.Steps.{StepModel, CanMove, Advances, FitsBehind, StandsBehind, IsWaiting, waits_at, root_state, root_task}
@@ -66,14 +68,14 @@ abbrev pub TriesComeToGroups : Type 0
 TriesComeToGroups =
     (plan : PlanModel) (t : Task) (s : StateModel) (domain : Domain) (keeps : List Keep) (q : PassModel) (j : Judged) (spare point : ℕ)
     → IsPlan plan → Stands plan t s → slice_get plan.tree.domains s.node.0 ≡ Some domain
-    → TriesSo plan domain s keeps q j s.stage → j.verdict ≡ waits spare point
+    → TriesSo plan domain s keeps q j s.stage → j.verdict ≡ Waits spare point
     → StandsTried plan t (state_sending s keeps j.begin j.field q) spare point
 
 -- how a domain ends by a verdict, where it does
 abbrev pub verdict_ending : Verdict → Option Ending
-verdict_ending (waits spare point) = None
-verdict_ending (completes leak) = Some (Done leak)
-verdict_ending (escalates cause over) = Some (Escalated cause over)
+verdict_ending (Waits spare point) = None
+verdict_ending (Completes leak) = Some (Done leak)
+verdict_ending (Escalates cause over) = Some (Escalated cause over)
 
 -- the tries of a domain that stands come to its end as its reading does
 abbrev pub TriesComeToEnds : Type 0

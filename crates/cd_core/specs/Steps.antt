@@ -24,7 +24,9 @@ use Rattle.cd_core.specs.Fits.{Fits}
 use Rattle.cd_core.specs.Tasks.{Task}
 use Rattle.cd_core.specs.Stands.{Stands}
 use Rattle.cd_core.specs.Asks.{EachAnswers}
-use Rattle.cd_core.specs.Advancing.{Judged, Verdict, waits, completes, escalates, TriesSo, state_behind, state_sending, all_sent, members_at}
+use Rattle.cd_core.specs.Advancing.{Judged, TriesSo, state_behind, state_sending, all_sent, members_at}
+use Rattle.cd_core.specs.declared.verdict.Verdict.{Verdict}
+use Rattle.cd_core.specs.declared.verdict.Verdict.TheVariants.{Waits, Completes, Escalates}
 
 -- neither ended nor waiting
 abbrev pub CanMove : Stage → Type 0
@@ -51,19 +53,19 @@ step_model field pass NoMemory = no_memory
 
 -- the step is that of the verdict, and the children are those that are sent
 abbrev pub StepIs : PlanModel → Domain → StateModel → Verdict → StepModel → Type 0
-StepIs plan domain sending (waits spare point) (sends children) =
+StepIs plan domain sending (Waits spare point) (sends children) =
     children ≡ all_sent plan sending (members_at domain point) sending.field sending.pass
-StepIs plan domain sending (waits spare point) ends_done = ⊥
-StepIs plan domain sending (waits spare point) ends_escalated = ⊥
-StepIs plan domain sending (waits spare point) no_memory = Unit {0}
-StepIs plan domain sending (completes leak) (sends children) = ⊥
-StepIs plan domain sending (completes leak) ends_done = Unit {0}
-StepIs plan domain sending (completes leak) ends_escalated = ⊥
-StepIs plan domain sending (completes leak) no_memory = Unit {0}
-StepIs plan domain sending (escalates cause over) (sends children) = ⊥
-StepIs plan domain sending (escalates cause over) ends_done = ⊥
-StepIs plan domain sending (escalates cause over) ends_escalated = Unit {0}
-StepIs plan domain sending (escalates cause over) no_memory = Unit {0}
+StepIs plan domain sending (Waits spare point) ends_done = ⊥
+StepIs plan domain sending (Waits spare point) ends_escalated = ⊥
+StepIs plan domain sending (Waits spare point) no_memory = Unit {0}
+StepIs plan domain sending (Completes leak) (sends children) = ⊥
+StepIs plan domain sending (Completes leak) ends_done = Unit {0}
+StepIs plan domain sending (Completes leak) ends_escalated = ⊥
+StepIs plan domain sending (Completes leak) no_memory = Unit {0}
+StepIs plan domain sending (Escalates cause over) (sends children) = ⊥
+StepIs plan domain sending (Escalates cause over) ends_done = ⊥
+StepIs plan domain sending (Escalates cause over) ends_escalated = Unit {0}
+StepIs plan domain sending (Escalates cause over) no_memory = Unit {0}
 
 -- what a step came from: the domain's tries, and what they came to
 pub record AdvancesBy (plan : PlanModel) (old new : StateModel) (step : StepModel) : Type 0 where

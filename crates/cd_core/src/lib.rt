@@ -3,9 +3,13 @@
 #![tactic(auto)]
 
 mod advance;
+mod path;
 mod resume;
+mod sending;
 mod start;
 mod state;
+mod tries;
+mod verdict;
 
 pub use start::start_root;
 pub use state::{Ending, NodeState, Outcome, Stage, Step};
