@@ -1,2 +1,10 @@
 pub mod WorkedKeeps
 pub mod WorkedTries
+pub mod PlaceTests
+pub mod Putting
+pub mod PieceWords
+pub mod Steps
+pub mod Pointing
+pub mod Refilled
+pub mod Staying
+pub mod Trying

@@ -4,7 +4,6 @@ use Rattle.cd_base.specs.declared.place.Range.{Range}
 use Rattle.cd_base.specs.declared.place.Place.{Place}
 use Rattle.cd_tree.specs.declared.document.Fault.{Fault}
 use Rattle.cd_tree.specs.declared.domain.Domain.{Domain}
-use Rattle.cd_tree.specs.declared.domain.Entry.{Entry}
 use Rattle.cd_tree.specs.declared.domain.Item.{Item}
 use Rattle.cd_tree.specs.declared.domain.Item.TheVariants as item
 use Rattle.cd_tree.specs.declared.domain.How.TheVariants as how
@@ -12,7 +11,6 @@ use Rattle.cd_tree.specs.declared.domain.NodeId.{NodeId}
 use Rattle.cd_tree.specs.declared.operation.Op.TheVariants.{Fill}
 use Rattle.cd_tree.specs.declared.event.Event.TheVariants.{Begin, Refilled, Reached, Halted, Found}
 use Rattle.cd_field.specs.FieldModel.{FieldModel}
-use Rattle.cd_keep.specs.declared.keep_id.KeepId.{KeepId}
 use Rattle.cd_tries.specs.declared.keep.Keep.{Keep}
 use Rattle.cd_tries.specs.declared.keep.Keep.TheVariants.{Copied}
 use Rattle.cd_tries.specs.declared.tries.Stop.TheVariants.{Group, Passed, Failed, Broken}
@@ -73,7 +71,7 @@ run items script = tries_from (with items) 1 1 (tried_from 2 (domain items) (beg
 plain : (run (item.Run (Fill y 7) ∷ []) []).course ≡ record { spare = 1; begin = 1; stop = Passed 0 }
 plain = refl
 
--- kind 0 strikes behind the fill: the second try passes, with the words filled again
+-- kind 0 strikes after the fill: the second try passes, with the words filled again
 abbrev struck_once : Tried
 struck_once = run (item.Run (Fill y 7) ∷ []) (strike 1 1 0 ∷ [])
 

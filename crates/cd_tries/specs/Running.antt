@@ -1,5 +1,5 @@
 -- A try on a machine: its points up to a group, its judgement, and the tries that follow one that failed.
-use Rattle.std.specs.Prelude.{◌≡◌, ℕ, zero, suc, ◌+◌, ◌-◌, ◌^◌, min, Bool, true, false, ◌==◌, bit_and, List, [], ◌∷◌, drop}
+use Rattle.std.specs.Prelude.{ℕ, zero, suc, ◌+◌, ◌-◌, ◌^◌, min, Bool, true, false, ◌&&◌, nat_lt, ◌==◌, bit_and, List, [], ◌∷◌, drop}
 use Rattle.cd_tree.specs.declared.domain.NodeId.{NodeId}
 use Rattle.cd_tree.specs.declared.domain.Item.{Item}
 use Rattle.cd_tree.specs.declared.domain.Item.TheVariants as item
@@ -36,7 +36,7 @@ where_quiet true m next = next m
 where_quiet false m next = run_ends m at.Halt
 
 -- a try from a point on: at each point its faults strike, then its item runs; it stops where a kind halts it, at a group, and
--- behind the last point
+-- after the last point
 abbrev pub run_to : ℕ → FieldModel → ℕ → List Item → Run
 run_to halts m point [] =
     where_quiet (is_quiet halts (reached_point m point)) (reached_point m point) (λ now. run_ends now at.End)
@@ -59,7 +59,7 @@ abbrev pub by_found : ℕ → ℕ → Bool → Stop
 by_found notes found true = Passed notes
 by_found notes found false = Failed found
 
--- behind the last point the notes that the domain declares are found
+-- after the last point the notes that the domain declares are found
 abbrev pub detected : ℕ → FieldModel → Trial
 detected detects m =
     stops (told m (Found m.node (bit_and m.notes detects))) (by_found m.notes (bit_and m.notes detects) (bit_and m.notes detects == no_kinds))
@@ -118,6 +118,17 @@ unless_failed (Group point) here next = here
 unless_failed (Passed leak) here next = here
 unless_failed (Failed kinds) here next = next kinds
 unless_failed (Broken kinds over) here next = here
+
+-- whether a try has failed
+abbrev pub has_failed : Stop → Bool
+has_failed (Group point) = false
+has_failed (Passed leak) = false
+has_failed (Failed kinds) = true
+has_failed (Broken kinds over) = false
+
+-- a further try comes where the last has failed and one is to spare
+abbrev pub has_next : Course → Bool
+has_next course = nat_lt 0 course.spare && has_failed course.stop
 
 -- a try that failed is followed by another, while one is to spare
 abbrev pub tries_from : Means → ℕ → ℕ → Trial → Tried

@@ -1,5 +1,5 @@
--- The laws of later tries: what is present behind them and with which words, and what stays. Each is a contract of `laws`.
-use Rattle.std.specs.Prelude.{◌≡◌, ℕ, suc, ◌≤◌, ◌++◌, true, false, List, [], ◌∷◌, length}
+-- The laws of later tries: what is present after them and with which words, and what stays. Each is a contract of `try_laws`.
+use Rattle.std.specs.Prelude.{◌≡◌, ℕ, ◌≤◌, ◌++◌, false, List, [], ◌∷◌, length}
 use Rattle.cd_base.specs.declared.place.Place.{Place}
 use Rattle.cd_base.specs.Words.{Words, in_range}
 use Rattle.cd_tree.specs.declared.domain.NodeId.{NodeId}
@@ -22,7 +22,7 @@ EachGives known w (entry ∷ entries) [] = ⊥
 EachGives known w (entry ∷ entries) (keep ∷ keeps) =
     SameWords (in_range entry.range) (keep_words known entry.how keep) w × EachGives known w entries keeps
 
--- a machine behind entries that were put back: the events of it, and words and presence in the entries, are what has changed
+-- a machine after entries were put back: its record tells of each, and words and presence in the entries have changed, nothing else
 pub record PutBack (known : Known) (entries : List Entry) (keeps : List Keep) (m n : FieldModel) : Type 0 where
   pub same : n ≡ record m { words = n.words; lost = n.lost; events = m.events ++ told_refilled m.node 0 entries }
   pub present : ArePresentIn entries n
@@ -43,13 +43,13 @@ pub record Stays (id : NodeId) (domain : Domain) (m n : FieldModel) : Type 0 whe
   pub outside : (p : Place) → in_entries domain.entries p ≡ false → (n.words p ≡ m.words p) × (n.lost p ≡ m.lost p)
   pub present : ArePresentIn domain.entries n
 
--- a machine that could run has all that still behind the points of a try
+-- a machine that could run has all that still after the points of a try
 abbrev pub PointsKeep : Type 0
 PointsKeep =
     (id : NodeId) (domain : Domain) (halts point : ℕ) (m : FieldModel) → CanRun id domain m → point ≤ length domain.items
     → Stays id domain m (tried_from halts domain m point).field
 
--- and behind the tries that follow
+-- and after the tries that follow
 abbrev pub TriesKeep : Type 0
 TriesKeep =
     (with : Means) (spare begin : ℕ) (t : Trial) → CanRun with.node with.domain t.field

@@ -11,6 +11,7 @@ mod preserving;
 mod refilling;
 mod shelf;
 mod tries;
+pub mod try_laws;
 
 pub use keep::{Keep, Pieces};
 pub use points::Arrival;
