@@ -8,3 +8,9 @@ pub mod Pointing
 pub mod Refilled
 pub mod Staying
 pub mod Trying
+pub mod Ranges
+pub mod Holding
+pub mod Cutting
+pub mod Differing
+pub mod Saving
+pub mod Preserved

@@ -117,6 +117,20 @@ SavedAs s Copy keep events p q = SavedByCopy s keep events p q
 SavedAs s Refer keep events p q = SavedByReference s keep events p q
 SavedAs s (Regen pattern) keep events p q = SavedByPattern s pattern keep events p q
 
+-- the spot of an entry of the domain in hand of a machine
+abbrev pub spot : FieldModel → ℕ → Range → Option Pieces → Spot
+spot m at range link = record { node = m.node; at = at; range = range; words = m.words; link = link }
+
+-- the machine after events were told in order
+abbrev pub told_all : FieldModel → List Event → FieldModel
+told_all m events = record m { events = m.events ++ events }
+
+-- an entry was preserved by this keep: the machine before and behind, and the pass before and behind
+pub record IsSaved (s : Spot) (how : How) (keep : Keep) (m n : FieldModel) (p q : PassModel) : Type 0 where
+  pub events : List Event
+  pub saved : SavedAs s how keep events p q
+  pub told : n ≡ told_all m events
+
 -- ---- all entries
 
 -- one entry preserved, and those behind it
@@ -137,10 +151,6 @@ SavedAll id w links at (entry ∷ entries) [] events p q = ⊥
 SavedAll id w links at (entry ∷ entries) (keep ∷ keeps) events p q =
     First (λ told between. SavedAs (record { node = id; at = at; range = entry.range; words = w; link = links at }) entry.how keep told p between)
     (λ more between. SavedAll id w links (suc at) entries keeps more between q) events
-
--- the machine after events were told in order
-abbrev pub told_all : FieldModel → List Event → FieldModel
-told_all m events = record m { events = m.events ++ events }
 
 -- the pieces of the links of a domain's entries, by the numbers of these, among what the domains above keep
 abbrev pub links_for : List Domain → NodeId → List Level → ℕ → Option Pieces

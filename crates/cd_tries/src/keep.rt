@@ -1,4 +1,8 @@
 // What a domain keeps of one entry.
+ghost use Rattle.std.specs.Prelude.{◌≡◌};
+ghost use Rattle.std.specs.Option.{option_copied};
+ghost use Rattle.cd_tries.specs.Keeping.{pieces_of};
+
 use cd_base::Items;
 use cd_keep::KeepId;
 
@@ -20,4 +24,17 @@ pub enum Keep {
     Shared(Pieces),
     /// By its pattern alone.
     Pattern,
+}
+
+impl Keep {
+    /// The pieces that stand for the words; none where a pattern gives them. It takes no memory.
+    pub fn pieces(&self) -> Option<&Pieces>
+        ensures { option_copied result ≡ pieces_of self.now }
+    {
+        match self {
+            Keep::Copied(pieces) => Some(pieces),
+            Keep::Shared(pieces) => Some(pieces),
+            Keep::Pattern => None,
+        }
+    }
 }

@@ -5,14 +5,19 @@
 //! them; what that means for the reading of a program is no matter of this crate.
 #![tactic(auto)]
 
+mod copying;
+mod giving_up;
 mod keep;
+mod patterns;
 mod points;
 mod preserving;
 mod refilling;
+mod sharing;
 mod shelf;
 mod tries;
 pub mod try_laws;
 
+pub use giving_up::give_up_all;
 pub use keep::{Keep, Pieces};
 pub use points::Arrival;
 pub use preserving::preserve;

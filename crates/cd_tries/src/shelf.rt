@@ -1,7 +1,9 @@
 // What domains keep, shared with the domains below them.
-ghost use Rattle.std.specs.Prelude.{◌≡◌, [], IfOk};
+ghost use Rattle.std.specs.Prelude.{◌≡◌, [], IfOk, slice_get};
+ghost use Rattle.std.specs.Option.{option_copied};
+ghost use Rattle.cd_tries.specs.Keeping.{pieces_in};
 
-use crate::Keep;
+use crate::{Keep, Pieces};
 use cd_base::{Items, NoMemory};
 use cd_tree::NodeId;
 use std::alloc::Global;
@@ -52,6 +54,14 @@ impl Shelf {
             None => &[],
             Some(keeps) => keeps.items(),
         }
+    }
+
+    /// The pieces that are kept of an entry; none where it is kept by its pattern, or where there is no such entry. It takes no
+    /// memory.
+    pub fn pieces_at(&self, entry: u32) -> Option<&Pieces>
+        ensures { option_copied result ≡ pieces_in (slice_get self.now entry) }
+    {
+        self.keeps().get(entry as usize)?.pieces()
     }
 
     /// The same shelf once more. It copies a pointer.
