@@ -1,18 +1,19 @@
 -- What holds as the tries of a domain begin, what they come to, and what holds when they are done.
-use Rattle.std.specs.Prelude.{◌≡◌, ℕ, ◌+◌, ◌-◌, ◌<◌, ◌≤◌, ◌^◌, All, List, [], ◌∷◌, length, Some, slice_get}
+use Rattle.std.specs.Prelude.{◌≡◌, true, IsSome, ℕ, ◌+◌, ◌-◌, ◌<◌, ◌≤◌, ◌^◌, All, List, [], ◌∷◌, length, Some, slice_get}
+use Rattle.cd_base.specs.declared.place.Place.{Place}
 use Rattle.cd_tree.specs.declared.domain.NodeId.{NodeId}
 use Rattle.cd_tree.specs.declared.domain.Domain.{Domain}
 use Rattle.cd_tree.specs.declared.domain.Item.TheVariants.{Group}
-use Rattle.cd_tree.specs.Domains.{Node, node_of}
-use Rattle.cd_tree.specs.Meaning.{node_need}
-use Rattle.cd_tree.specs.Scripts.{path_of}
+use Rattle.cd_tree.specs.Domains.{Node, node_of, node_numbers}
+use Rattle.cd_tree.specs.Meaning.{node_need, node_reach}
+use Rattle.cd_tree.specs.Scripts.{IsAccepted, path_of}
 use Rattle.cd_field.specs.FieldModel.{FieldModel, ArePresent, begun, without}
 use Rattle.cd_keep.specs.PassModel.{PassModel, HoldsNothing}
 use Rattle.cd_keep.specs.PassModel as passes
 use Rattle.cd_cover.specs.PlanLaws.{need_of}
 use Rattle.cd_cover.specs.Plans.{PlanModel}
 use Rattle.cd_tries.specs.declared.keep.Keep.{Keep}
-use Rattle.cd_tries.specs.Fitting.{ArePresentIn, CanPreserve, CanTry, HasWords, StrikesWithin}
+use Rattle.cd_tries.specs.Fitting.{ArePresentIn, CanPreserve, CanTry, StrikesWithin}
 use Rattle.cd_tries.specs.Keeping.{KeepsFit, HoldsThese, all_ids}
 use Rattle.cd_tries.specs.Preserving.{links_for}
 use Rattle.cd_tries.specs.Running.{next_begin}
@@ -22,7 +23,7 @@ use Rattle.cd_core.specs.declared.verdict.Verdict.{Verdict}
 use Rattle.cd_core.specs.declared.verdict.Verdict.TheVariants.{Waits, Completes, Escalates}
 use Rattle.cd_core.specs.Advancing.{Judged, TriesSo, means_of, own_count, size_of, state_sending}
 use Rattle.cd_core.specs.Asks.{foot_of}
-use Rattle.cd_core.specs.Fits.{IsBlamed}
+use Rattle.cd_core.specs.Fits.{IsBlamed, LinksAreKept}
 use Rattle.cd_core.specs.StateModel.{StateModel}
 
 -- ---- before
@@ -71,22 +72,25 @@ pub record FitsWaits (domain : Domain) (s : StateModel) (spare point : ℕ) : Ty
   pub group : slice_get domain.items point ≡ Some (Group ids)
 
 -- what a verdict leaves: a domain that escalates for a member's sake has not all present
-abbrev pub FitsVerdict : PlanModel → Domain → StateModel → Verdict → Type 0
-FitsVerdict plan domain s (Waits spare point) = FitsWaits domain s spare point
-FitsVerdict plan domain s (Completes leak) = ArePresentIn domain.entries s.field
-FitsVerdict plan domain s (Escalates cause over) =
-    ((d : Node) → node_of plan.tree.domains s.node ≡ Some d → IsBlamed plan d cause)
-    × (cause.path ≡ path_of plan.tree.domains s.node → ArePresentIn domain.entries s.field)
+abbrev pub FitsVerdict : PlanModel → Node → Domain → StateModel → Verdict → Type 0
+FitsVerdict plan d domain s (Waits spare point) = FitsWaits domain s spare point
+FitsVerdict plan d domain s (Completes leak) = ArePresentIn domain.entries s.field
+FitsVerdict plan d domain s (Escalates cause over) =
+    IsBlamed plan d cause × (cause.path ≡ path_of plan.tree.domains s.node → ArePresentIn domain.entries s.field)
 
 -- a domain whose tries are done, before it sends members or ends
-pub record FitsTried (plan : PlanModel) (domain : Domain) (s : StateModel) (verdict : Verdict) : Type 0 where
-  pub counts : 0 < length s.counts
+pub record FitsTried (plan : PlanModel) (d : Node) (domain : Domain) (s : StateModel) (verdict : Verdict) : Type 0 where
+  pub is : node_of plan.tree.domains s.node ≡ Some d
+  pub counts : length s.counts ≡ length (node_numbers d)
+  pub script : IsAccepted plan.tree s.field.script
+  pub words : (p : Place) → node_reach d p ≡ true → IsSome (s.field.words p)
+  pub most : node_need d ≤ s.pass.most
+  pub links : LinksAreKept plan s.pass.known d s.above
   pub here : s.field.node ≡ s.node
-  pub words : HasWords domain.entries s.field
   pub keeps : KeepsFit s.pass.known domain.entries s.keeps
   pub holds : HoldsThese s.pass (all_ids s.keeps)
-  pub room : (d : Node) → node_of plan.tree.domains s.node ≡ Some d → s.pass.room + s.pass.held ≡ node_need d
-  pub leaves : FitsVerdict plan domain s verdict
+  pub room : s.pass.room + s.pass.held ≡ node_need d
+  pub leaves : FitsVerdict plan d domain s verdict
 
 -- ---- sending
 

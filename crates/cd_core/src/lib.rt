@@ -3,6 +3,7 @@
 #![tactic(auto)]
 
 mod advance;
+mod ending;
 mod path;
 mod resume;
 mod sending;
