@@ -1,12 +1,12 @@
 -- What a pass holds behind ids that were held once more, or given up, in order.
-use Rattle.std.proofs.Common.{◌≡◌, ℕ, zero, suc, ◌+◌, ◌-◌, ◌<◌, ◌≤◌, Bool, true, false, ◌&&◌, ◌==◌, cond, List, [], ◌∷◌, ◌++◌, length, get_or, drop, take, arith, refl, ap, sym, subst, ◌∙◌, append_assoc, Option, IsSome, All, Contains}
+use Rattle.std.proofs.Common.{◌≡◌, ℕ, zero, suc, ◌+◌, ◌-◌, ◌<◌, ◌≤◌, Bool, true, false, ◌&&◌, ◌==◌, cond, List, [], ◌∷◌, ◌++◌, length, get_or, drop, take, arith, refl, ap, sym, subst, ◌∙◌, append_assoc, Option, Some, IsSome, All, Contains}
 use Rattle.std.proofs.Math.Path.{fun_ext}
 use Rattle.std.proofs.lemmas.List.{drop_more, drop_all, take_more, length-take-le, get_or_default}
-use Rattle.std.proofs.lemmas.Bool.{eq-eqb, and_from, and_parts}
+use Rattle.std.proofs.lemmas.Bool.{eq-eqb, and_from, and_parts, cond-true}
 use Rattle.std.proofs.lemmas.Bool.Decides.{nat_tests}
 use Rattle.cd_keep.specs.declared.keep_id.KeepId.{KeepId}
 use Rattle.cd_keep.specs.declared.gone_note.GoneNote.{GoneNote}
-use Rattle.cd_keep.specs.PassModel.{PassModel, same_id, one_more, one_less, shared, lapsed, gave_up}
+use Rattle.cd_keep.specs.PassModel.{PassModel, same_id, known_with, one_more, one_less, shared, lapsed, gave_up}
 use Rattle.cd_tries.specs.declared.keep.Keep.{Keep}
 use Rattle.cd_tries.specs.Keeping.{times_in, keep_ids, all_ids}
 use Rattle.cd_tries.specs.Preserving.{shared_each}
@@ -23,7 +23,7 @@ same_holds p h k a b c d each held room =
     ∙ ap (λ (v : ℕ). with_holds p k v c) held
     ∙ ap (λ (v : ℕ). with_holds p k b v) room
 
-counted_more : (b : Bool) (n m : ℕ) → cond b (n + 1) n + m ≡ n + (cond b 1 0 + m)
+pub counted_more : (b : Bool) (n m : ℕ) → cond b (n + 1) n + m ≡ n + (cond b 1 0 + m)
 counted_more true n m = omega arith
 counted_more false n m = omega arith
 
@@ -218,3 +218,7 @@ gone_undone p now gone next ids i note within room so_far is given =
       given ∙ ap (λ (v : PassModel). gave_up_each v (take i ids)) (is ∙ ap (λ (v : PassModel). lapsed v id note) so_far)
           ∙ shared_and_given_up p (take i ids) id note (omega (arith, few, within, room)),
     )
+
+-- an id has the words under which it is known
+pub known_itself : (known : KeepId → Option (List ℕ)) (id : KeepId) (words : List ℕ) → known_with known id words id ≡ Some words
+known_itself known id words = cond-true (same_id id id) (Some words) (known id) (same_id_self id)

@@ -14,3 +14,8 @@ pub mod Cutting
 pub mod Differing
 pub mod Saving
 pub mod Preserved
+pub mod Rows
+pub mod Lapses
+pub mod KeepsLegal
+pub mod KeepsHeld
+pub mod KeepsGiven

@@ -63,7 +63,7 @@ spent_none n p q is = record {
 count_short : (begin low high : ℕ) → (high - 1 - begin) / 64 + 1 - (low - begin) / 64 ≤ (high - low + 63) / 64 + 1
 count_short begin low high = omega arith
 
-met_short : (o : Option Pieces) (pieces : Pieces) (r : Range) → IsSomeAnd o (λ link. pieces ≡ met link r) → length pieces.ids ≤ blocks_of r + 1
+pub met_short : (o : Option Pieces) (pieces : Pieces) (r : Range) → IsSomeAnd o (λ link. pieces ≡ met link r) → length pieces.ids ≤ blocks_of r + 1
 met_short None pieces r h = absurd h
 met_short (Some link) pieces r h =
     let is : length pieces.ids ≡ length (take (count_met link r) (drop (first_met link r) link.ids)) = ap (λ (v : Pieces). length v.ids) h in

@@ -8,6 +8,7 @@
 mod copying;
 mod giving_up;
 mod keep;
+pub mod keep_laws;
 mod patterns;
 mod points;
 mod preserving;
