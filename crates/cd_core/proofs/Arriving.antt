@@ -38,7 +38,8 @@ use Rattle.cd_core.specs.Advancing.{own_count, Judged, verdict_of, judged_course
 use Rattle.cd_core.specs.declared.verdict.Verdict.{Verdict}
 use Rattle.cd_core.specs.declared.verdict.Verdict.TheVariants.{Waits, Completes, Escalates}
 use Rattle.cd_core.specs.StateLaws.{verdict_ending, TriesComeToEnds}
-use Rattle.cd_core.proofs.Facts.{MoreLaws, reach_is, there_and}
+use Rattle.cd_core.specs.LawsBelow.{MoreLaws}
+use Rattle.cd_core.proofs.Facts.{reach_is, there_and}
 use Rattle.cd_core.proofs.Grounds.{view_in, body_in}
 use Rattle.cd_core.proofs.Judging.{Over, StopsAt}
 use Rattle.cd_core.proofs.Keeping.{all_give}

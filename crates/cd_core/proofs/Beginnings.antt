@@ -30,7 +30,7 @@ use Rattle.std.proofs.lemmas.Bool.{eq-eqb}
 use Rattle.cd_core.proofs.Choices.{other}
 use Rattle.cd_core.proofs.Following.{case_on, try_on, OthersStay, Before}
 use Rattle.cd_core.proofs.Judging.{Over, all_told}
-use Rattle.cd_core.proofs.Rounds.{Laws}
+use Rattle.cd_core.specs.LawsBelow.{Laws}
 
 not_passed : (cause : Blame) (over : ℕ) (b : Bool) (leak : ℕ) → stopped cause over b ≡ passed leak → ⊥
 not_passed cause over true leak wrong = cc

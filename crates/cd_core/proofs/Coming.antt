@@ -33,11 +33,12 @@ use Rattle.cd_core.specs.StateModel.{StateModel}
 use Rattle.cd_core.specs.Tasks.{Task, LinksAgree, KeepsGive}
 use Rattle.cd_core.specs.Advancing.{own_count}
 use Rattle.cd_core.proofs.Choices.{chosen}
-use Rattle.cd_core.proofs.Facts.{MoreLaws}
+use Rattle.cd_core.specs.LawsBelow.{MoreLaws}
 use Rattle.cd_core.proofs.Following.{case_on, Before}
 use Rattle.cd_core.proofs.Grounds.{view_in, body_in, plan_sound, plan_apart}
 use Rattle.cd_core.proofs.Judging.{StopsAt}
-use Rattle.cd_core.proofs.Rounds.{Laws, GoesOn, Rests, rounds, points_judged, run_begin, judged_begin}
+use Rattle.cd_core.specs.LawsBelow.{Laws}
+use Rattle.cd_core.proofs.Rounds.{GoesOn, Rests, rounds, points_judged, run_begin, judged_begin}
 
 -- ---- a machine behind tries goes on
 

@@ -32,7 +32,7 @@ use Rattle.cd_core.specs.Tasks.{Task, LinksGive}
 use Rattle.cd_core.specs.Stands.{Stands, StandsAt}
 use Rattle.cd_core.specs.Advancing.{own_count, Judged, after_loss, means_of, TriesSo}
 use Rattle.cd_core.specs.declared.verdict.Verdict.{Verdict}
-use Rattle.cd_core.proofs.Facts.{MoreLaws}
+use Rattle.cd_core.specs.LawsBelow.{MoreLaws}
 use Rattle.cd_core.proofs.Given.{same_pieces}
 use Rattle.cd_core.proofs.Grounds.{view_in}
 use Rattle.cd_core.proofs.Lapses.{lapses, tries_lapses, judged_lapses, run_lapses, again_lapses, one_more}

@@ -32,7 +32,7 @@ use Rattle.cd_core.specs.declared.verdict.Verdict.TheVariants.{Waits, Completes,
 use Rattle.cd_core.specs.StateLaws.{verdict_ending}
 use Rattle.cd_core.proofs.Arriving.{tries_end}
 use Rattle.cd_core.proofs.Commons.{Common, common}
-use Rattle.cd_core.proofs.Facts.{MoreLaws}
+use Rattle.cd_core.specs.LawsBelow.{MoreLaws}
 use Rattle.cd_core.proofs.Lapses.{lapses, one_more, refilled_lapses, given_up}
 use Rattle.cd_core.proofs.ReadyOnes.{task_at}
 use Rattle.cd_core.proofs.Standing.{task_is}

@@ -29,30 +29,10 @@ use Rattle.cd_tries.specs.Keeping.{Known, Cover, linked_by}
 use Rattle.cd_tries.specs.KeepLaws.{PreservedAreHeld, PreservedAreGiven, PreservedIsLegal, LapsesAreAnswered}
 use Rattle.cd_tries.specs.Preserving.{links_for}
 use Rattle.cd_tries.specs.TryLaws.{PointsKeep, TriesKeep}
+use Rattle.cd_core.specs.LawsBelow.{MoreLaws}
 use Rattle.cd_core.specs.Fits.{LinksAreKept}
 use Rattle.cd_core.proofs.Grounds.{view_in, body_in}
 use Rattle.cd_core.proofs.Keeping.{StandAt, stand_here, stand_behind, own_is_outer}
-use Rattle.cd_core.proofs.Rounds.{Laws}
-
-pub record MoreLaws : Type 0 where
-  pub laws : Laws
-  pub first : FirstPointIsThere
-  pub passes : PassesGroups
-  pub lead : FrontsLead
-  pub follows : NestedViewFollows
-  pub reach : ReachIsEntries
-  pub covered : CoveredInPrograms
-  pub distinct : NumbersAreDistinct
-  pub items : ItemsBehind
-  pub detectable : DetectableByPaths
-  pub outer : OuterAreThese
-  pub links : ReferencesHaveLinks
-  pub held : PreservedAreHeld
-  pub given : PreservedAreGiven
-  pub legal : PreservedIsLegal
-  pub answered : LapsesAreAnswered
-  pub points : PointsKeep
-  pub tries : TriesKeep
 
 -- a domain that is listed is one of the list
 pub listed_below : {A : Type 0} (xs : List A) (k : ℕ) (x : A) → slice_get xs k ≡ Some x → k < length xs

@@ -24,7 +24,8 @@ use Rattle.cd_tries.specs.Preserving.{links_for}
 use Rattle.cd_core.specs.Fits.{LinksAreKept}
 use Rattle.cd_core.specs.Tasks.{Task, LinksGive, KeepGives, KeepsGive}
 use Rattle.cd_core.proofs.Choices.{or_left, or_right}
-use Rattle.cd_core.proofs.Facts.{MoreLaws, there_and}
+use Rattle.cd_core.specs.LawsBelow.{MoreLaws}
+use Rattle.cd_core.proofs.Facts.{there_and}
 use Rattle.cd_core.proofs.Grounds.{view_in}
 use Rattle.cd_core.proofs.Keeping.{StandAt, all_stand, stand_here, stand_behind, own_is_outer}
 

@@ -32,7 +32,8 @@ use Rattle.cd_core.proofs.Beginnings.{before_first}
 use Rattle.cd_core.proofs.Choices.{chosen}
 use Rattle.cd_core.proofs.Following.{Before}
 use Rattle.cd_core.proofs.Coming.{Behind, tries_rest}
-use Rattle.cd_core.proofs.Facts.{MoreLaws, strikes_within, own_links, reach_is}
+use Rattle.cd_core.specs.LawsBelow.{MoreLaws}
+use Rattle.cd_core.proofs.Facts.{strikes_within, own_links, reach_is}
 use Rattle.cd_core.proofs.Grounds.{view_in, body_in, plan_sound}
 use Rattle.cd_core.proofs.Keeping.{all_give, all_stand}
 use Rattle.cd_core.proofs.Retrying.{least_of}

@@ -26,7 +26,8 @@ use Rattle.cd_core.specs.Stands.{AsSent, WaitingFront, members_told, StandsResum
 use Rattle.cd_core.specs.Advancing.{own_count, Judged, judged_course, after_loss}
 use Rattle.cd_core.proofs.Beginnings.{WaitsFor, before_next, lost_over}
 use Rattle.cd_core.proofs.Coming.{Behind, tries_rest, goes_on}
-use Rattle.cd_core.proofs.Facts.{MoreLaws, reach_is}
+use Rattle.cd_core.specs.LawsBelow.{MoreLaws}
+use Rattle.cd_core.proofs.Facts.{reach_is}
 use Rattle.cd_core.proofs.Following.{Before, case_on}
 use Rattle.cd_core.proofs.Grounds.{view_in, body_in, plan_sound, plan_apart}
 use Rattle.cd_core.proofs.Judging.{Over, StopsAt}

@@ -30,6 +30,7 @@ use Rattle.cd_tries.specs.Keeping.{Known, KeepsFit}
 use Rattle.cd_tries.specs.Refilling.{refilled_all}
 use Rattle.cd_tries.specs.Running.{Run as Ran, run_to, is_quiet, where_quiet, Trial, stops, halted, judged, judged_at, means, Means, tried_again, next_begin, Tried, tries_from}
 use Rattle.cd_tries.specs.TryLaws.{EachGives, PutBack, PuttingBack, Stays, TryingAgainKeeps}
+use Rattle.cd_core.specs.LawsBelow.{Laws}
 use Rattle.cd_core.proofs.Following.{case_on, Before, Came, running}
 use Rattle.cd_core.proofs.Judging.{Over, StopsAt, all_told, judging}
 use Rattle.cd_core.proofs.Retrying.{begun_again, before_again, numbered_next}
@@ -75,20 +76,6 @@ last_stop (Group point) = tt
 last_stop (Passed leak) = tt
 last_stop (Failed kinds) = refl
 last_stop (Broken kinds over) = tt
-
--- the laws on which it rests
-pub record Laws : Type 0 where
-  pub pieces : LegalPieces
-  pub points : NextPointIsThere
-  pub tries : NextTryIsThere
-  pub stand : FrontsStand
-  pub between : FrontCountsLieBetween
-  pub comes : RunComesNext
-  pub less : OneItemLess
-  pub firsts : FirstThenRest
-  pub keeps : OperationKeepsAgreement
-  pub back : PuttingBack
-  pub stays : TryingAgainKeeps
 
 module _ (tree : TreeModel) (loaded : Words) (halts : ℕ) (domain : Domain) (body : Body) (counts base : Counts) (begun : Words) (P : Type 0) where
   -- a machine on which the domain can go on

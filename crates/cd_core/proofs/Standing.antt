@@ -29,7 +29,8 @@ use Rattle.cd_core.specs.Advancing.{own_count, Judged, after_loss, means_of, Beg
 use Rattle.cd_core.specs.declared.verdict.Verdict.{Verdict}
 use Rattle.cd_core.specs.declared.verdict.Verdict.TheVariants.{Waits, Escalates}
 use Rattle.cd_core.specs.StateLaws.{StandsTried, TriesComeToGroups}
-use Rattle.cd_core.proofs.Facts.{MoreLaws, strikes_within, reach_is}
+use Rattle.cd_core.specs.LawsBelow.{MoreLaws}
+use Rattle.cd_core.proofs.Facts.{strikes_within, reach_is}
 use Rattle.cd_core.proofs.Given.{keeps_given}
 use Rattle.cd_core.proofs.Grounds.{view_in}
 use Rattle.cd_core.proofs.ReadyOnes.{task_at, Comes, can_preserve, come_ready}

@@ -30,7 +30,8 @@ use Rattle.cd_core.specs.StateModel.{StateModel}
 use Rattle.cd_core.specs.Tasks.{Task, LinksAgree, counts_in, task_reading}
 use Rattle.cd_core.specs.Stands.{StandsArrived, ending_of, named}
 use Rattle.cd_core.specs.Advancing.{ended, put_back_at_root}
-use Rattle.cd_core.proofs.Facts.{MoreLaws, reach_is}
+use Rattle.cd_core.specs.LawsBelow.{MoreLaws}
+use Rattle.cd_core.proofs.Facts.{reach_is}
 use Rattle.cd_core.proofs.Following.{case_on}
 use Rattle.cd_core.proofs.Grounds.{view_in, body_in, plan_apart}
 use Rattle.cd_core.proofs.Judging.{Over, all_told}

@@ -27,7 +27,8 @@ use Rattle.cd_core.specs.declared.verdict.Verdict.{Verdict}
 use Rattle.cd_core.specs.declared.verdict.Verdict.TheVariants.{Waits, Completes, Escalates}
 use Rattle.cd_core.specs.StateLaws.{StandsTried}
 use Rattle.cd_core.proofs.Choices.{by_test}
-use Rattle.cd_core.proofs.Facts.{MoreLaws, reach_is}
+use Rattle.cd_core.specs.LawsBelow.{MoreLaws}
+use Rattle.cd_core.proofs.Facts.{reach_is}
 use Rattle.cd_core.proofs.Following.{case_on, try_on, At, front_on}
 use Rattle.cd_core.proofs.Grounds.{view_in, body_in, plan_apart}
 use Rattle.cd_core.proofs.Judging.{AtGroup, StopsAt}

@@ -8,3 +8,4 @@ pub mod Resuming
 pub mod Steps
 pub mod Trying
 pub mod StateLaws
+pub mod LawsBelow

@@ -4,6 +4,7 @@
 
 mod advance;
 mod ending;
+mod laws_below;
 mod path;
 mod resume;
 mod sending;
