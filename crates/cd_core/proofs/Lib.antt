@@ -23,3 +23,4 @@ mod Lapses
 mod Commons
 mod EndsStand
 mod Making
+mod Advanced

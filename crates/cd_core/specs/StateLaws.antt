@@ -35,7 +35,7 @@ use Rattle.cd_core.specs.declared.verdict.Verdict.TheVariants.{Waits, Completes,
 use Rattle.cd_core.specs.Resuming.{CanTakeEach, all_done, first_escalation, nodes_of, resumed}
 use Rattle.cd_core.specs.Advancing.{members_at}
 use Rattle.cd_core.specs.Trying.{AreBelow, CanMakeTries, CanSendAll, FitsTried, TriedFrom}
-use Rattle.cd_core.specs.Steps.{StepModel, CanMove, Advances, AllFit, FitsBehind, StandsBehind, IsWaiting, waits_at, root_state, root_task}
+use Rattle.cd_core.specs.Steps.{StepModel, sends, ends_done, ends_escalated, CanMove, Advances, AllFit, FitsBehind, StandsBehind, IsWaiting, waits_at, root_state, root_task}
 
 -- ---- fitting
 
@@ -179,6 +179,13 @@ escalated_by domain s cause over = record s {
   field = gone_up (put_back_at_root domain s.pass.known s.keeps s.field);
   pass = gave_up_each s.pass (all_ids s.keeps);
 }
+
+-- what follows a verdict, exactly: the state and the step
+abbrev pub Concludes : PlanModel → Domain → StateModel → Verdict → StateModel → StepModel → Type 0
+Concludes plan domain s (Waits spare point) new step =
+    (new ≡ waiting_for plan s (members_at domain point) spare point) × (step ≡ sends (all_sent plan s (members_at domain point) s.field s.pass))
+Concludes plan domain s (Completes leak) new step = (new ≡ completed s leak) × (step ≡ ends_done)
+Concludes plan domain s (Escalates cause over) new step = (new ≡ escalated_by domain s cause over) × (step ≡ ends_escalated)
 
 abbrev pub CompletingFits : Type 0
 CompletingFits =

@@ -3,6 +3,7 @@
 #![tactic(auto)]
 
 mod advance;
+pub mod advancing_laws;
 mod ending;
 mod laws_below;
 mod path;
