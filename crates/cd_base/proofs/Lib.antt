@@ -1,3 +1,6 @@
+pub mod BoolLemmas
+pub mod PlaceLemmas
+pub mod ListLemmas
 pub mod EndLemmas
 pub mod RangeLemmas
 pub mod LeastLemmas

@@ -1,27 +1,15 @@
 -- Lemmas on sets of places that are lists of ranges.
-use Rattle.std.proofs.Common.{◌≡◌, ℕ, ◌+◌, ◌<◌, ◌≤◌, Bool, true, false, ◌&&◌, ◌||◌, nat_lt, nat_le, ◌==◌, List, [], ◌∷◌, ◌++◌, length, min, max, Option, Some, None, refl, sym, ap, ◌∙◌, ◌^◌, subst, inl, inr, arith}
+use Rattle.std.proofs.Common.{◌≡◌, ℕ, ◌+◌, ◌<◌, ◌≤◌, Bool, true, false, ◌&&◌, ◌||◌, nat_lt, nat_le, ◌==◌, List, [], ◌∷◌, ◌++◌, length, min, max, Option, Some, None, refl, sym, ap, ◌∙◌, subst, inl, inr, arith}
 use Rattle.std.proofs.lemmas.Bool.Decides.{nat_tests}
 use Rattle.std.proofs.lemmas.Bool.{cond_both, cases_Bool, or_from, or_left, false_from_ne_true, true≢false}
 use Rattle.cd_base.specs.declared.place.Place.{Place}
 use Rattle.cd_base.specs.declared.place.Range.{Range}
 use Rattle.cd_base.specs.Words.{PlaceSet, in_range, in_ranges}
 use Rattle.cd_base.specs.Places.{is_before, IsBeforeAll, IsOrdered, hull, with_range, stands_before, IsLeast}
+use Rattle.cd_base.proofs.BoolLemmas.{or-assoc, or-swap, and-or}
+use Rattle.cd_base.proofs.PlaceLemmas.{place-same, range-same}
 
 -- ---- tests on numbers
-
-pub or-assoc : (a b c : Bool) → ((a || b) || c) ≡ (a || (b || c))
-or-assoc true b c = refl
-or-assoc false b c = refl
-
-pub or-swap : (a b c : Bool) → (a || (b || c)) ≡ (b || (a || c))
-or-swap true true c = refl
-or-swap true false c = refl
-or-swap false true c = refl
-or-swap false false c = refl
-
-and-or : (a b c : Bool) → (a && (b || c)) ≡ ((a && b) || (a && c))
-and-or true b c = refl
-and-or false b c = refl
 
 -- two spans that overlap or touch make one span
 spans_meet : (a b c d i : ℕ) → a < b → c < d → a ≤ d → c ≤ b
@@ -191,19 +179,12 @@ ends_no_earlier r s rs ss e f h o same =
     let here : in_ranges (s ∷ ss) b ≡ true = or_left (in_range s b) (in_ranges ss b) (end_in r.region s.region r.low r.high s.low s.high e f h p) in
     true≢false (sym here ∙ sym (same b) ∙ gone))
 
-same_range : (r s : Range) → r.region ≡ s.region → r.low ≡ s.low → r.high ≡ s.high → r ≡ s
-same_range r s e f g =
-    let at_region : ℕ → Range = λ n. record { region = n; low = r.low; high = r.high } in
-    let at_low : ℕ → Range = λ n. record { region = s.region; low = n; high = r.high } in
-    let at_high : ℕ → Range = λ n. record { region = s.region; low = s.low; high = n } in
-    ap at_region e ∙ ap at_low f ∙ ap at_high g
-
 -- the first ranges of two lists of the same places are one range
 same_first : (r s : Range) (rs ss : List Range) → IsOrdered (r ∷ rs) → IsOrdered (s ∷ ss) → ((p : Place) → in_ranges (r ∷ rs) p ≡ in_ranges (s ∷ ss) p) → r ≡ s
 same_first r s rs ss o u same =
     let back : (p : Place) → in_ranges (s ∷ ss) p ≡ in_ranges (r ∷ rs) p = λ p. sym (same p) in
     let start = same_start r.region s.region r.low s.low (starts_no_earlier r s rs ss o.0 u.0 u.1 same) (starts_no_earlier s r ss rs u.0 o.0 o.1 back) in
-    same_range r s start.0 start.1 (same_end r.high s.high (ends_no_earlier r s rs ss start.0 start.1 o.0 o.1 same)
+    range-same r s start.0 start.1 (same_end r.high s.high (ends_no_earlier r s rs ss start.0 start.1 o.0 o.1 same)
     (ends_no_earlier s r ss rs (sym start.0) (sym start.1) u.0 u.1 back))
 
 inside_end : (a b i k l : ℕ) → ((b == a) && (nat_le k i && nat_lt i l)) ≡ true → (nat_lt a b || ((a == b) && nat_le i l)) ≡ true
@@ -238,9 +219,7 @@ IsOrdered-same (r ∷ rs) (s ∷ ss) o u same =
 pub stands_before-neither : (p q : Place) → stands_before p q ≡ false → stands_before q p ≡ false → p ≡ q
 stands_before-neither p q h k =
     let same = same_start p.region q.region p.index q.index h k in
-    let at_region : ℕ → Place = λ n. record { region = n; index = p.index } in
-    let at_index : ℕ → Place = λ n. record { region = q.region; index = n } in
-    ap at_region same.0 ∙ ap at_index same.1
+    place-same p q same.0 same.1
 
 -- a set has one least place, or none
 pub IsLeast-same : (places : PlaceSet) (one other : Option Place) → IsLeast places one → IsLeast places other → one ≡ other

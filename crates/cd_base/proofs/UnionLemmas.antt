@@ -7,7 +7,9 @@ use Rattle.cd_base.specs.declared.place.Place.{Place}
 use Rattle.cd_base.specs.declared.place.Range.{Range}
 use Rattle.cd_base.specs.Words.{in_range, in_ranges}
 use Rattle.cd_base.specs.Places.{is_before, IsBeforeAll, IsOrdered, hull, begins_before, by_start, united_from, united}
-use Rattle.cd_base.proofs.RangeLemmas.{or-assoc, or-swap, is_before-trans, is_before-neither, hull-some, in_range-hull, in_ranges-append}
+use Rattle.cd_base.proofs.BoolLemmas.{or-none, or-assoc, or-swap}
+use Rattle.cd_base.proofs.ListLemmas.{Each}
+use Rattle.cd_base.proofs.RangeLemmas.{is_before-trans, is_before-neither, hull-some, in_range-hull, in_ranges-append}
 
 -- ---- tests and numbers
 
@@ -33,16 +35,11 @@ before_hull : (pr ph rr rl sr sl : ℕ) → rr ≡ sr → (nat_lt sr rr || ((sr 
     → (nat_lt pr rr || ((pr == rr) && nat_lt ph (min rl sl))) ≡ true
 before_hull pr ph rr rl sr sl e h k = grind (arith, nat_tests)
 
-or_none : (b : Bool) → (b || false) ≡ b
-or_none true = refl
-or_none false = refl
-
 -- ---- by their beginnings
 
 -- none of these begins before r
 abbrev pub NoneBegins : Range → List Range → Type 0
-NoneBegins r [] = Unit {0}
-NoneBegins r (s ∷ rest) = (begins_before s r ≡ false) × NoneBegins r rest
+NoneBegins r rest = Each (λ (s : Range). begins_before s r ≡ false) rest
 
 -- no range is empty, and none begins before one that it comes after
 abbrev pub ByStart : List Range → Type 0
@@ -79,7 +76,7 @@ ByStart-by_start (r ∷ rs) (s ∷ ss) h k =
 
 pub in_ranges-by_start : (rs ss : List Range) (q : Place) → in_ranges (by_start rs ss) q ≡ (in_ranges rs q || in_ranges ss q)
 in_ranges-by_start [] ss q = refl
-in_ranges-by_start (r ∷ rs) [] q = sym (or_none (in_ranges (r ∷ rs) q))
+in_ranges-by_start (r ∷ rs) [] q = sym (or-none (in_ranges (r ∷ rs) q))
 in_ranges-by_start (r ∷ rs) (s ∷ ss) q =
     cond_both (begins_before s r) _ _ (λ (l : List Range). in_ranges l q ≡ (in_ranges (r ∷ rs) q || in_ranges (s ∷ ss) q))
     (λ e. ap (λ (b : Bool). in_range s q || b) (in_ranges-by_start (r ∷ rs) ss q) ∙ or-swap (in_range s q) (in_ranges (r ∷ rs) q) (in_ranges ss q))

@@ -1,3 +1,4 @@
+//! Bytes that contracts see by their content.
 ghost use Rattle.std.specs.Prelude.{◌≡◌};
 
 use std::marker::Model;

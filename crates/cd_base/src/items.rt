@@ -1,3 +1,4 @@
+//! Lists that contracts compare by their items: they serve in types where a `Vec`, with its capacity, does not.
 ghost use Rattle.std.specs.Prelude.{◌≡◌, [], ◌∷◌, ◌++◌, ◌+◌, ◌<◌, ◌^◌, length, OnOk, OnErr};
 
 use crate::NoMemory;

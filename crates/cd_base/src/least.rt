@@ -1,4 +1,5 @@
-ghost use Rattle.std.specs.Prelude.{◌≡◌, [], ◌∷◌, MatchOption, max};
+//! One pass over two sets of places: the least place of both, and the least that one of them lacks.
+ghost use Rattle.std.specs.Prelude.{◌≡◌, [], ◌∷◌, MatchOption};
 ghost use Rattle.cd_base.specs.Places.{IsLeast, IsOrdered, begins_before, ends_before, in_both, in_second_alone};
 
 use crate::{Place, Range};
@@ -17,7 +18,7 @@ pub(crate) fn first_common(mut first: &[Range], mut second: &[Range]) -> Option<
         } else if ends_before(other, one) {
             second = left;
         } else {
-            return Some(later_start(one, other));
+            return Some(place_in(one, one.low.max(other.low)));
         }
     }
 }
@@ -32,16 +33,16 @@ pub(crate) fn first_lacking(mut first: &[Range], mut second: &[Range]) -> Option
     loop {
         let (other, left) = parted(second)?;
         let Some((one, rest)) = parted(first) else {
-            return Some(start(other));
+            return Some(place_in(other, other.low));
         };
         if ends_before(one, other) {
             first = rest;
         } else if begins_before(other, one) {
-            return Some(start(other));
+            return Some(place_in(other, other.low));
         } else if other.high <= one.high {
             second = left;
         } else {
-            return Some(end(one));
+            return Some(place_in(one, one.high));
         }
     }
 }
@@ -70,35 +71,13 @@ pub(crate) fn begins_before(range: Range, other: Range) -> bool
     range.region < other.region || range.region == other.region && range.low < other.low
 }
 
-// Where a range begins.
-fn start(range: Range) -> Place
+// The place of an index in the region of a range.
+fn place_in(range: Range, index: u32) -> Place
     ensures region { result.region ≡ range.region }
-    ensures index { result.index ≡ range.low }
+    ensures index { result.index ≡ index }
 {
     Place {
         region: range.region,
-        index: range.low,
-    }
-}
-
-// Where a range ends: the place after its last.
-fn end(range: Range) -> Place
-    ensures region { result.region ≡ range.region }
-    ensures index { result.index ≡ range.high }
-{
-    Place {
-        region: range.region,
-        index: range.high,
-    }
-}
-
-// Where the later of two ranges of one region begins.
-fn later_start(range: Range, other: Range) -> Place
-    ensures region { result.region ≡ range.region }
-    ensures index { result.index ≡ max range.low other.low }
-{
-    Place {
-        region: range.region,
-        index: range.low.max(other.low),
+        index,
     }
 }

@@ -1,5 +1,13 @@
 //! The ground of the runtime: places of words and sets of them, patterns of initial words, lists and texts that
 //! contracts see by their content, and the ends through which bytes come and go.
+//!
+//! ```
+//! let mut places = Places::new(alloc);
+//! places.add(Range { region: 1, low: 10, high: 20 })?;
+//! places.add(Range { region: 1, low: 20, high: 25 })?;
+//! // the two touch, so they are one range
+//! assert_eq!(rt; places.ranges(), [Range { region: 1, low: 10, high: 25 }].as_slice());
+//! ```
 #![tactic(auto)]
 
 mod bytes;

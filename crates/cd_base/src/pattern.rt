@@ -1,3 +1,4 @@
+//! Patterns: the rules that give a region its first words.
 ghost use Rattle.std.specs.Prelude.{◌≡◌};
 ghost use Rattle.cd_base.specs.Words.{pattern_word};
 

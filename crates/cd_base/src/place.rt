@@ -1,3 +1,4 @@
+//! Places of words, and ranges of places of one region.
 /// One word of a region: the region's number, and the word's index in it.
 #[derive(Debug, Clone, Copy, PartialEq, Eq, PartialOrd, Ord)]
 pub struct Place {

@@ -1,3 +1,4 @@
+//! The trait of what bytes are written to.
 ghost use Rattle.std.specs.Prelude.{◌<◌, ◌≤◌, length, IfOk};
 ghost use Rattle.std.specs.Io.KnownBytes.{WriteAppends};
 ghost use Rattle.cd_base.specs.Ends.{SinkModel, Rose, OnFailed};

@@ -1,3 +1,4 @@
+//! The trait of what bytes are read from.
 ghost use Rattle.std.specs.Prelude.{◌<◌, ◌≤◌, length, OnErr};
 ghost use Rattle.std.specs.Io.{ReadsAtMost};
 ghost use Rattle.std.specs.Io.KnownBytes.{ReadConsumes};

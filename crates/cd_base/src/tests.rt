@@ -1,3 +1,4 @@
+//! Tests of this crate: words of patterns and unions of sets that no clause computes, and ends that fail at chosen calls.
 ghost use Rattle.std.specs.Prelude.{◌≡◌, ◌<◌};
 
 use crate::{
@@ -271,21 +272,28 @@ fn everything_is_read_in_any_steps(rt: HostRuntime) -> Result<(), Fail> {
     Ok(())
 }
 
+// That reading three bytes stops for this reason, and that these are left then.
+fn stops(
+    alloc: Global,
+    mut source: MemorySource,
+    limit: u32,
+    (why, rest): (ReadStop, &str),
+) -> Result<(), Fail> {
+    let stop = read_all(alloc, &mut source, limit).err();
+    let left = read_all(alloc, &mut source, 9)?;
+    if stop == Some(why) && left.as_slice() == rest.as_bytes() {
+        Ok(())
+    } else {
+        Err(Fail::new(format_args!("{rest} is to be left: {stop:?}")))
+    }
+}
+
 #[test]
 fn a_fault_at_any_read_takes_nothing(rt: HostRuntime) -> Result<(), Fail> {
     let alloc = rt.alloc();
     for (call, rest) in [(1, "abc"), (2, "bc"), (3, "c"), (4, "")] {
-        let mut source = source(alloc, b"abc", 1, &[call])?;
-        assert_eq!(rt;
-            read_all(alloc, &mut source, 9).err(),
-            Some(ReadStop::Failed),
-            "at {call}"
-        );
-        assert_eq!(rt;
-            read_all(alloc, &mut source, 9)?.as_slice(),
-            rest.as_bytes(),
-            "at {call}"
-        );
+        let source = source(alloc, b"abc", 1, &[call])?;
+        stops(alloc, source, 9, (ReadStop::Failed, rest))?;
     }
     Ok(())
 }
@@ -294,17 +302,8 @@ fn a_fault_at_any_read_takes_nothing(rt: HostRuntime) -> Result<(), Fail> {
 fn too_long_takes_one_byte_past_the_limit(rt: HostRuntime) -> Result<(), Fail> {
     let alloc = rt.alloc();
     for (limit, rest) in [(0, "bc"), (1, "c"), (2, "")] {
-        let mut source = source(alloc, b"abc", 2, &[])?;
-        assert_eq!(rt;
-            read_all(alloc, &mut source, limit).err(),
-            Some(ReadStop::TooLong),
-            "at {limit}"
-        );
-        assert_eq!(rt;
-            read_all(alloc, &mut source, 9)?.as_slice(),
-            rest.as_bytes(),
-            "at {limit}"
-        );
+        let source = source(alloc, b"abc", 2, &[])?;
+        stops(alloc, source, limit, (ReadStop::TooLong, rest))?;
     }
     Ok(())
 }

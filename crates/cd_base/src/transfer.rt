@@ -1,7 +1,8 @@
+//! Everything from a source, and everything into a sink, in as many calls as the ends need.
 ghost use Rattle.cd_base.specs.Ends.{ReadAll, WriteAll};
 
 use crate::{Bytes, Failed, Sink, Source, WriteStop};
-use std::alloc::{AllocError, Global};
+use std::alloc::Global;
 
 /// Why reading to the end stopped before it.
 #[derive(Debug, Clone, Copy, PartialEq, Eq)]
@@ -25,17 +26,7 @@ impl From<Failed> for ReadStop {
     }
 }
 
-impl From<AllocError> for ReadStop {
-    ghost use Rattle.std.specs.Prelude.{◌≡◌};
-    ghost use Rattle.cd_base.specs.declared.transfer.ReadStop.{ReadStop};
-
-    ghost from_gives = { λ _ stop. stop ≡ ReadStop.NoMemory };
-
-    fn from(_error: AllocError) -> Self {
-        ReadStop::NoMemory
-    }
-}
-
+// The bytes that one read asks for at most.
 const PIECE: usize = 4096;
 
 /// Reads to the end, in pieces. It never asks for more than one byte past the limit, so what follows stays unread.
@@ -54,7 +45,9 @@ pub fn read_all<S: Source>(alloc: Global, source: &mut S, limit: u32) -> Result<
         if count == room {
             return Err(ReadStop::TooLong);
         }
-        bytes.extend_from_slice(&buffer[..count])?;
+        if bytes.extend_from_slice(&buffer[..count]).is_err() {
+            return Err(ReadStop::NoMemory);
+        }
         room -= count;
     }
 }

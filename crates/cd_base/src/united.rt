@@ -1,3 +1,4 @@
+//! One pass over two lists of ranges, by their beginnings, into one list.
 ghost use Rattle.std.specs.Prelude.{◌≡◌, [], ◌∷◌, IfOk, MatchOption};
 ghost use Rattle.cd_base.specs.Places.{by_start, united, united_from};
 

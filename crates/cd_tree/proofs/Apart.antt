@@ -1,38 +1,16 @@
 -- Two ranges have no common place where, in one region, the lesser end is not above the greater beginning.
-use Rattle.std.proofs.Common.{◌≡◌, ◌↔◌, IsTrue, ℕ, ◌<◌, ◌≤◌, min, max, true, ◌&&◌, nat_lt, nat_le, ◌==◌, refl, arith, inl, inr, sym}
-use Rattle.std.proofs.lemmas.Bool.{and_parts, and_from, eqb-true, eq-eqb, leb-true, le-leb, ltb-true, lt-ltb, cases_lt, cases_Bool, both_ways}
+use Rattle.std.proofs.Common.{◌≡◌, ◌↔◌, ◌<◌, ◌≤◌, min, max, true, not, ◌==◌, nat_le, refl, arith, inl, inr, sym, ◌∙◌}
+use Rattle.std.proofs.lemmas.Bool.{leb-true, le-leb, eq-eqb, ne_eqb, or_cases, or_left, or_right, not-true, not_from_false, cases_lt, cases_eq, cases_Bool, both_ways}
 use Rattle.cd_base.specs.declared.place.Place.{Place}
 use Rattle.cd_base.specs.declared.place.Range.{Range}
 use Rattle.cd_base.specs.Words.{in_range}
-use Rattle.cd_tree.specs.Operations.{AreApart}
+use Rattle.cd_base.proofs.PlaceLemmas.{Inside, inside_from, inside_to}
+use Rattle.cd_tree.specs.Operations.{AreApart, is_apart}
 
--- a place that is in a range
-pub record Within (r : Range) (p : Place) : Type 0 where
-  pub region : r.region ≡ p.region
-  pub low : r.low ≤ p.index
-  pub high : p.index < r.high
-
-pub within : (r : Range) (p : Place) → in_range r p ≡ true → Within r p
-within r p is =
-    let outer : (r.region == p.region ≡ true) × ((nat_le r.low p.index && nat_lt p.index r.high) ≡ true) =
-    and_parts (r.region == p.region) (nat_le r.low p.index && nat_lt p.index r.high) is in
-    let inner : (nat_le r.low p.index ≡ true) × (nat_lt p.index r.high ≡ true) =
-    and_parts (nat_le r.low p.index) (nat_lt p.index r.high) outer.1 in
-    record {
-      region = eqb-true r.region p.region outer.0;
-      low = leb-true r.low p.index inner.0;
-      high = ltb-true p.index r.high inner.1;
-    }
-
-pub has_place : (r : Range) (p : Place) → r.region ≡ p.region → r.low ≤ p.index → p.index < r.high → in_range r p ≡ true
-has_place r p region low high =
-    and_from (r.region == p.region) (nat_le r.low p.index && nat_lt p.index r.high) (eq-eqb r.region p.region region)
-    (and_from (nat_le r.low p.index) (nat_lt p.index r.high) (le-leb r.low p.index low) (lt-ltb p.index r.high high))
-
-apart_where_none : (r s : Range) → ((p : Place) → Within r p → Within s p → ⊥) → AreApart r s
+apart_where_none : (r s : Range) → ((p : Place) → Inside r p → Inside s p → ⊥) → AreApart r s
 apart_where_none r s none p one =
     elim (cases_Bool (in_range s p)) [
-      | inl other ↦ absurd (none p (within r p one) (within s p other))
+      | inl other ↦ absurd (none p (inside_from r p one) (inside_from s p other))
       | inr not ↦ not
     ]
 
@@ -52,18 +30,25 @@ ends_of_apart r s region apart =
       | inl common ↦
           let p : Place = record { region = r.region; index = max r.low s.low } in
           absurd (both_ways (in_range s p)
-          (apart p (has_place r p refl (omega arith) (omega arith)))
-          (has_place s p (sym region) (omega arith) (omega arith)))
+          (apart p (inside_to r p (record { region = refl; low = omega arith; high = omega arith })))
+          (inside_to s p (record { region = sym region; low = omega arith; high = omega arith })))
     ]
 
--- the test of two ranges in one region
-pub apart_test : (r s : Range) (high low : ℕ) → r.region ≡ s.region → high ≡ min r.high s.high → low ≡ max r.low s.low
-    → IsTrue (nat_le high low) ↔ AreApart r s
-apart_test r s high low region high_is low_is = (
-  λ test.
-      let ends : high ≤ low = leb-true high low test in
-      apart_by_ends r s (omega arith),
-  λ apart.
-      let ends : min r.high s.high ≤ max r.low s.low = ends_of_apart r s region apart in
-      le-leb high low (omega arith),
+-- what the test says
+pub apart_says : (r s : Range) → is_apart r s ≡ true ↔ AreApart r s
+apart_says r s = (
+  λ test. elim (or_cases (not (r.region == s.region)) (nat_le (min r.high s.high) (max r.low s.low)) test) [
+    | inl elsewhere ↦ apart_where_none r s (λ p one other.
+        let region : r.region ≡ s.region = one.region ∙ sym other.region in
+        both_ways (r.region == s.region) (not-true (r.region == s.region) elsewhere) (eq-eqb r.region s.region region))
+    | inr ends ↦ apart_by_ends r s (leb-true (min r.high s.high) (max r.low s.low) ends)
+  ],
+  λ apart. elim (cases_eq r.region s.region) [
+    | inl same ↦
+        or_right (not (r.region == s.region)) (nat_le (min r.high s.high) (max r.low s.low))
+        (le-leb (min r.high s.high) (max r.low s.low) (ends_of_apart r s same apart))
+    | inr other ↦
+        or_left (not (r.region == s.region)) (nat_le (min r.high s.high) (max r.low s.low))
+        (not_from_false (r.region == s.region) (ne_eqb r.region s.region other))
+  ],
 )

@@ -5,7 +5,7 @@ use Rattle.cd_tree.specs.declared.domain.Entry.{Entry}
 use Rattle.cd_tree.specs.declared.event.Event.{Event}
 use Rattle.cd_tree.specs.declared.event.Event.TheVariants.{Begin, Reached}
 use Rattle.cd_tree.specs.Reading.{saved_from, refilled_from, prepared}
-use Rattle.cd_tree.proofs.EventsTold.{Every}
+use Rattle.cd_base.proofs.ListLemmas.{Each}
 
 -- an event that is no arrival of this domain
 abbrev pub NoArrival : NodeId → Event → Type 0
@@ -28,15 +28,15 @@ split (x ∷ xs) ys (y ∷ before) after event e =
           inr (between, ap (λ (zs : List Event). y ∷ zs) here ∙ ap (λ (z : Event). z ∷ (xs ++ between)) (sym first), there)
     ]
 
-every_at : (P : Event → Type 0) (before after : List Event) (event : Event) → Every P (before ++ event ∷ after) → P event
+every_at : (P : Event → Type 0) (before after : List Event) (event : Event) → Each P (before ++ event ∷ after) → P event
 every_at P [] after event every = every.0
 every_at P (x ∷ before) after event every = every_at P before after event every.1
 
 -- an arrival does not stand among events that are none
-pub not_among : {A : Type 0} (id : NodeId) (xs before after : List Event) (point : ℕ) → Every (NoArrival id) xs
+pub not_among : {A : Type 0} (id : NodeId) (xs before after : List Event) (point : ℕ) → Each (NoArrival id) xs
     → xs ≡ before ++ Reached id point ∷ after → A
 not_among id xs before after point none e =
-    absurd (every_at (NoArrival id) before after (Reached id point) (subst (Every (NoArrival id)) e none) point refl)
+    absurd (every_at (NoArrival id) before after (Reached id point) (subst (Each (NoArrival id)) e none) point refl)
 
 one_event : (before after : List Event) (one event : Event) → one ∷ [] ≡ before ++ event ∷ after → (before ≡ []) × (one ≡ event)
 one_event [] after one event e = let same : one ≡ event = cc in (refl, same)
@@ -54,7 +54,7 @@ append_nil (x ∷ xs) = ap (λ (ys : List Event). x ∷ ys) (append_nil xs)
 
 -- behind events F come some that are no arrivals, an arrival, and a rest: what holds of that arrival and of each in the
 -- rest, by the events before it, holds of each
-pub arrivals : (At : List Event → ℕ → Type 0) (id : NodeId) (F q rest : List Event) (point : ℕ) → Every (NoArrival id) q → At (F ++ q) point
+pub arrivals : (At : List Event → ℕ → Type 0) (id : NodeId) (F q rest : List Event) (point : ℕ) → Each (NoArrival id) q → At (F ++ q) point
     → ((before after : List Event) (k : ℕ) → rest ≡ before ++ Reached id k ∷ after → At ((F ++ (q ++ Reached id point ∷ [])) ++ before) k)
     → (before after : List Event) (k : ℕ) → (q ++ Reached id point ∷ []) ++ rest ≡ before ++ Reached id k ∷ after → At (F ++ before) k
 arrivals At id F q rest point none here later before after k e =
@@ -78,18 +78,18 @@ arrivals At id F q rest point none here later before after k e =
           subst (λ (xs : List Event). At xs k) same at
     ]
 
-saved_none : (id : NodeId) (at : ℕ) (entries : List Entry) → Every (NoArrival id) (saved_from id at entries)
+saved_none : (id : NodeId) (at : ℕ) (entries : List Entry) → Each (NoArrival id) (saved_from id at entries)
 saved_none id at [] = tt
 saved_none id at (entry ∷ entries) = (λ point e. absurd (cc), saved_none id (suc at) entries)
 
-pub refilled_none : (id : NodeId) (at : ℕ) (entries : List Entry) → Every (NoArrival id) (refilled_from id at entries)
+pub refilled_none : (id : NodeId) (at : ℕ) (entries : List Entry) → Each (NoArrival id) (refilled_from id at entries)
 refilled_none id at [] = tt
 refilled_none id at (entry ∷ entries) = (λ point e. absurd (cc), refilled_none id (suc at) entries)
 
-prepared_none : (id : NodeId) (first : Bool) (entries : List Entry) → Every (NoArrival id) (prepared first id entries)
+prepared_none : (id : NodeId) (first : Bool) (entries : List Entry) → Each (NoArrival id) (prepared first id entries)
 prepared_none id true entries = saved_none id 0 entries
 prepared_none id false entries = refilled_none id 0 entries
 
 -- there is no arrival in a begin before the first point
-pub begin_none : (id : NodeId) (number : ℕ) (first : Bool) (entries : List Entry) → Every (NoArrival id) (Begin id number ∷ prepared first id entries)
+pub begin_none : (id : NodeId) (number : ℕ) (first : Bool) (entries : List Entry) → Each (NoArrival id) (Begin id number ∷ prepared first id entries)
 begin_none id number first entries = (λ point e. absurd (cc), prepared_none id first entries)

@@ -12,7 +12,7 @@ use Rattle.cd_tree.specs.Reading.{Case, Counts, Past, joined, Told, told, after,
 use Rattle.cd_tree.specs.Fronts.{Stand, Front, arrives, begins, past_item, where_none, next_point, behind_point, behind_arrival, tried, front_of_node, behind_front, WaitsAt}
 use Rattle.cd_tree.specs.FrontLaws.{StandsThere, FrontBehind, FrontsEndThere, ArrivalsAreFronts, teller_of}
 use Rattle.cd_tree.specs.Slices.{among}
-use Rattle.cd_tree.proofs.EventsTold.{Every, every_append}
+use Rattle.cd_base.proofs.ListLemmas.{Each, each_append}
 use Rattle.cd_tree.proofs.TellOwn.{TellerIn, members_tell_own}
 use Rattle.cd_tree.proofs.Arrivals.{NoArrival, split, not_among, arrivals, append_nil, begin_none, refilled_none}
 use Rattle.cd_tree.proofs.FrontParts.{repeated, read_by_arrival, begins_leads, goes_on}
@@ -25,12 +25,12 @@ abbrev Shows : (List Event → ℕ → Type 0) → NodeId → List Event → Lis
 Shows At id told events =
     (before after : List Event) (k : ℕ) → events ≡ before ++ Reached id k ∷ after → At (told ++ before) k
 
-shows_none : (At : List Event → ℕ → Type 0) (id : NodeId) (told events : List Event) → Every (NoArrival id) events → Shows At id told events
+shows_none : (At : List Event → ℕ → Type 0) (id : NodeId) (told events : List Event) → Each (NoArrival id) events → Shows At id told events
 shows_none At id told events none before after k e = not_among id events before after k none e
 
 -- arrivals in the first of two lists alone
 shows_first : (At : List Event → ℕ → Type 0) (id : NodeId) (told first second : List Event) → Shows At id told first
-    → Every (NoArrival id) second → Shows At id told (first ++ second)
+    → Each (NoArrival id) second → Shows At id told (first ++ second)
 shows_first At id told first second shows none before after k e =
     elim (split first second before after (Reached id k) e) [
       | inl (rest, inside) ↦ shows before rest k inside
@@ -48,7 +48,7 @@ shows_both At id told first second shows more before after k e =
     ]
 
 halted_none : (id : NodeId) (h : Try) (halts notes : ℕ) (counts : Counts) (declared : Bool)
-    → Every (NoArrival id) (halted h halts notes counts declared).past.events
+    → Each (NoArrival id) (halted h halts notes counts declared).past.events
 halted_none id h halts notes counts true = (λ point e. absurd (cc), (λ point e. absurd (cc), tt))
 halted_none id h halts notes counts false = (λ point e. absurd (cc), tt)
 
@@ -72,7 +72,7 @@ shows_quiet At id told w s counts on =
 -- a front whose events are these and then some without an arrival and its own, and what is left behind it
 front_shows : (w : Case) (id : NodeId) (domain : Domain) (body : Body) (counts : Counts) (t point : ℕ) (g : Told Front) (told q rest : List Event)
     → front_of_node w (node id domain body) counts t point ≡ Some g → g.past.events ≡ told ++ (q ++ Reached id point ∷ [])
-    → Every (NoArrival id) q → Shows (FrontBehind w id domain body counts) id g.past.events rest
+    → Each (NoArrival id) q → Shows (FrontBehind w id domain body counts) id g.past.events rest
     → Shows (FrontBehind w id domain body counts) id told ((q ++ Reached id point ∷ []) ++ rest)
 front_shows w id domain body counts t point g told q rest is events none later =
     let At : List Event → ℕ → Type 0 = FrontBehind w id domain body counts in
@@ -87,7 +87,7 @@ arrival_shows : (w : Case) (id : NodeId) (domain : Domain) (body : Body) (counts
     → f.answer.stand.trying.node ≡ id → f.answer.stand.point ≡ point
     → let g : Told Front = after p (arrives w f.answer.spare left f.answer.stand.trying (suc f.answer.stand.point) seen now) in
     front_of_node w (node id domain body) counts t (suc point) ≡ Some g
-    → p.events ≡ f.past.events ++ q → Every (NoArrival id) q
+    → p.events ≡ f.past.events ++ q → Each (NoArrival id) q
     → Shows (FrontBehind w id domain body counts) id g.past.events (behind_arrival w g.answer.stand g.counts).past.events
     → Shows (FrontBehind w id domain body counts) id f.past.events
     (q ++ (read_points w left f.answer.stand.trying (suc f.answer.stand.point) seen now).past.events)
@@ -120,11 +120,11 @@ next_running w f op left is none =
 
 -- members tell no arrival of the domain that they stand in
 members_none : (w : Case) (id : NodeId) (members : Members) (counts : Counts) → among (member_numbers members) id.0 ≡ false
-    → Every (NoArrival id) (read_members w members counts).past.events
+    → Each (NoArrival id) (read_members w members counts).past.events
 members_none w id members counts out =
     each (read_members w members counts).past.events (members_tell_own w members counts)
   where
-    each : (events : List Event) → Every (TellerIn (among (member_numbers members))) events → Every (NoArrival id) events
+    each : (events : List Event) → Each (TellerIn (among (member_numbers members))) events → Each (NoArrival id) events
     each [] all = tt
     each (event ∷ events) (here, all) = (
       λ point e.
@@ -134,14 +134,14 @@ members_none w id members counts out =
       each events all,
     )
 
-silent_group : (At : List Event → ℕ → Type 0) (id : NodeId) (told events : List Event) → Every (NoArrival id) events → Shows At id told (events ++ [])
-silent_group At id told events none = shows_none At id told (events ++ []) (every_append (NoArrival id) events [] none tt)
+silent_group : (At : List Event → ℕ → Type 0) (id : NodeId) (told events : List Event) → Each (NoArrival id) events → Shows At id told (events ++ [])
+silent_group At id told events none = shows_none At id told (events ++ []) (each_append (NoArrival id) events [] none tt)
 
 -- behind a group of which this is the end
 by_end : (w : Case) (id : NodeId) (domain : Domain) (body : Body) (counts : Counts) (t point : ℕ) (f : Told Front) (members : Members) (rest : Body)
     (end : GroupEnd) → (read_members w members f.counts).answer ≡ end
     → front_of_node w (node id domain body) counts t point ≡ Some f → WaitsAt w f.answer members rest
-    → Every (NoArrival id) (read_members w members f.counts).past.events
+    → Each (NoArrival id) (read_members w members f.counts).past.events
     → StandsThere w id domain body counts t point f.answer f.counts
     → ((g : Told Front) → front_of_node w (node id domain body) counts t (suc point) ≡ Some g → g.answer.stand.rest ≡ rest
     → Shows (FrontBehind w id domain body counts) id g.past.events (behind_arrival w g.answer.stand g.counts).past.events)
@@ -197,7 +197,7 @@ try_shows w id domain body counts out (group members rest) t point f is left bel
     let s : Stand = f.answer.stand in
     let all : Told GroupEnd = read_members w members f.counts in
     let outside = among_neither (member_numbers members) (body_numbers rest) id.0 below in
-    let quiet : Every (NoArrival id) all.past.events = members_none w id members f.counts outside.0 in
+    let quiet : Each (NoArrival id) all.past.events = members_none w id members f.counts outside.0 in
     let stands : StandsThere w id domain body counts t point f.answer f.counts = fronts_stand w id domain body counts t point f is in
     shows_quiet At id f.past.events w s f.counts
     (λ none.
@@ -215,9 +215,9 @@ left_shows w id domain body counts out t point f is =
     try_shows w id domain body counts out f.answer.stand.rest t point f is refl
     (subst (λ (b : Body). among (body_numbers b) id.0 ≡ false) (sym stands.rest) (behind_has_no_more point body id.0 out))
 
-refills_none : (id : NodeId) (domain : Domain) (root : Bool) → Every (NoArrival id) (escalation id domain root)
+refills_none : (id : NodeId) (domain : Domain) (root : Bool) → Each (NoArrival id) (escalation id domain root)
 refills_none id domain true =
-    every_append (NoArrival id) (refilled_from id 0 domain.entries) (Escalate id ∷ []) (refilled_none id 0 domain.entries) (λ k e. absurd (cc), tt)
+    each_append (NoArrival id) (refilled_from id 0 domain.entries) (Escalate id ∷ []) (refilled_none id 0 domain.entries) (λ k e. absurd (cc), tt)
 refills_none id domain false = (λ k e. absurd (cc), tt)
 
 ended_shows : (At : List Event → ℕ → Type 0) (told : List Event) (id : NodeId) (domain : Domain) (t : Told TryEnd) (end : TryEnd)

@@ -25,15 +25,7 @@ next_number false number last = last
 -- the last number of domain `k` behind an event; none where the numbers were out of order
 abbrev numbered : ℕ → Option ℕ → Event → Option ℕ
 numbered k last (Begin id number) = next_number (k == id.0) number last
-numbered k last (Saved id entry how) = last
-numbered k last (Fell id entry place wanted found) = last
-numbered k last (Lapsed id entry seen found) = last
-numbered k last (Refilled id entry) = last
-numbered k last (Reached id point) = last
-numbered k last (Halted id kinds) = last
-numbered k last (Found id kinds) = last
-numbered k last (Complete id) = last
-numbered k last (Escalate id) = last
+numbered k last event = last
 
 numbered_quiet : (k : ℕ) → Quiet (numbered k)
 numbered_quiet k =

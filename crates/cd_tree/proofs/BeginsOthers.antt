@@ -1,6 +1,7 @@
 -- Along the part of the record that belongs to other domains, the state of a domain keeps what lasts.
 use Rattle.std.proofs.Common.{◌≡◌, ℕ, suc, ◌+◌, ◌-◌, Bool, true, false, cond, ◌==◌, Option, refl, sym, ◌∙◌, arith}
 use Rattle.cd_tree.specs.declared.domain.NodeId.{NodeId}
+use Rattle.cd_tree.specs.declared.domain.Domain.{Domain}
 use Rattle.cd_tree.specs.declared.event.Event.TheVariants.{Begin}
 use Rattle.cd_tree.specs.KindSets.{no_kinds}
 use Rattle.cd_tree.specs.Domains.{Node, Body, Members, node, stop, run, group, no_more, member, node_numbers, body_numbers, member_numbers}
@@ -43,24 +44,34 @@ other_leaves up k Q lasts id other =
       breaks = λ counts cause over s q. other_escalates Q lasts (k == id.0) (is_number (up id.0) k) s other q;
     }
 
+-- a domain from its begin to its end, where each of its tries keeps what lasts
+pub tries_keep : (up : ℕ → Option NodeId) (k : ℕ) (Q : State → Type 0) → Lasts Q → (End : Counts → NodeEnd → State → Type 0)
+    (w : Case) (id : NodeId) (domain : Domain) (body : Body) (counts : Counts) (s : State) → (k == id.0) ≡ false
+    → Leaves (along up k) (Stays Q) End id
+    → ((h : Try) (now : Counts) (x : State) → (k == h.node.0) ≡ false → Q x → Goes (along up k) x (Stays Q) (read_points w body h 0 no_kinds now))
+    → Q s → Goes (along up k) s End (read_node w (node id domain body) counts)
+unfolding read_node
+tries_keep up k Q lasts End w id domain body counts s other leaves keeps q =
+    let starts : ℕ → Try = λ begin. record { node = id; detects = domain.detects; begin = begin } in
+    let one_try : (first : Bool) (now : Counts) (x : State) → Q x → Goes (along up k) x (Stays Q) (read_try w id domain body first now) =
+    λ first now x h.
+    begun_goes (along up k) (along_quiet up k) x (Stays Q) id domain first now
+    (λ begin more. read_points w body (starts begin) 0 no_kinds more)
+    (keeps (starts (now id.0 + 1)) (counted id.0 now) (along up k x (Begin id (now id.0 + 1))) other
+    (other_begins Q lasts (k == id.0) (is_number (up k) id.0) x other h)) in
+    tries_goes (along up k) (along_quiet up k) s (Stays Q) End (domain.retry - 1) id domain
+    (λ now. read_try w id domain body false now) (read_try w id domain body true counts)
+    leaves (λ now x cause h. one_try false now x h) (one_try true counts s q)
+
 mutual
   unfolding read_node read_points read_members
 
   pub node_keeps : (up : ℕ → Option NodeId) (k : ℕ) (Q : State → Type 0) → Lasts Q → (w : Case) (d : Node) (counts : Counts) (s : State)
       → copies k (node_numbers d) ≡ 0 → Q s → Goes (along up k) s (Stays Q) (read_node w d counts)
   node_keeps up k Q lasts w (node id domain body) counts s none q =
-      let starts : ℕ → Try = λ begin. record { node = id; detects = domain.detects; begin = begin } in
       let two : ((k == id.0) ≡ false) × (copies k (body_numbers body) ≡ 0) = not_here k id.0 (copies k (body_numbers body)) none in
-      let one_try : (first : Bool) (now : Counts) (x : State) → Q x → Goes (along up k) x (Stays Q) (read_try w id domain body first now) =
-      λ first now x h.
-      begun_goes (along up k) (along_quiet up k) x (Stays Q) id domain first now
-      (λ begin more. read_points w body (starts begin) 0 no_kinds more)
-      (points_keep up k Q lasts w body (starts (now id.0 + 1)) 0 no_kinds (counted id.0 now)
-      (along up k x (Begin id (now id.0 + 1))) two.0 two.1
-      (other_begins Q lasts (k == id.0) (is_number (up k) id.0) x two.0 h)) in
-      tries_goes (along up k) (along_quiet up k) s (Stays Q) (Stays Q) (domain.retry - 1) id domain
-      (λ now. read_try w id domain body false now) (read_try w id domain body true counts)
-      (other_leaves up k Q lasts id two.0) (λ now x cause h. one_try false now x h) (one_try true counts s q)
+      tries_keep up k Q lasts (Stays Q) w id domain body counts s two.0 (other_leaves up k Q lasts id two.0)
+      (λ h now x other here. points_keep up k Q lasts w body h 0 no_kinds now x other two.1 here) q
 
   pub points_keep : (up : ℕ → Option NodeId) (k : ℕ) (Q : State → Type 0) → Lasts Q → (w : Case) (body : Body) (h : Try) (point notes : ℕ)
       (counts : Counts) (s : State) → (k == h.node.0) ≡ false → copies k (body_numbers body) ≡ 0 → Q s

@@ -9,8 +9,8 @@ use Rattle.cd_tree.specs.Reading.{Case, Counts, counted, Told, Blame, TryEnd, Pa
 use Rattle.cd_tree.specs.CountLaws.{copies}
 use Rattle.cd_tree.proofs.Numbers.{copies-append}
 use Rattle.cd_tree.proofs.BeginsParts.{Goes, Exits, Stops, Leaves, arrived_goes, detected_goes, behind_group_goes, begun_goes, tries_goes, with_member_goes}
-use Rattle.cd_tree.proofs.BeginsStates.{State, is_number, along, along_quiet, IsRight, IsFree, IsAlive, free_lasts, alive_lasts, free_alive, alive_right, other_begins, other_completes, member_escalates, own_begins, own_finds, completes_right, escalates_right}
-use Rattle.cd_tree.proofs.BeginsOthers.{Stays, not_here, points_keep, members_keep}
+use Rattle.cd_tree.proofs.BeginsStates.{State, is_number, along, along_quiet, IsRight, IsFree, IsAlive, free_lasts, alive_lasts, free_alive, alive_right, other_completes, member_escalates, own_begins, own_finds, completes_right, escalates_right}
+use Rattle.cd_tree.proofs.BeginsOthers.{Stays, not_here, tries_keep, points_keep, members_keep}
 
 -- these members have this parent
 abbrev pub MembersUnder : (ℕ → Option NodeId) → NodeId → Members → Type 0
@@ -66,20 +66,10 @@ member_leaves up k id other here =
 member_frees : (up : ℕ → Option NodeId) (k : ℕ) (w : Case) (d : Node) (counts : Counts) (s : State)
     → is_number (up (number_of d)) k ≡ true → copies k (node_numbers d) ≡ 0 → IsAlive s
     → Goes (along up k) s AtMember (read_node w d counts)
-unfolding read_node
 member_frees up k w (node id domain body) counts s here none q =
-    let starts : ℕ → Try = λ begin. record { node = id; detects = domain.detects; begin = begin } in
     let two : ((k == id.0) ≡ false) × (copies k (body_numbers body) ≡ 0) = not_here k id.0 (copies k (body_numbers body)) none in
-    let one_try : (first : Bool) (now : Counts) (x : State) → IsAlive x → Goes (along up k) x (Stays IsAlive) (read_try w id domain body first now) =
-    λ first now x h.
-    begun_goes (along up k) (along_quiet up k) x (Stays IsAlive) id domain first now
-    (λ begin more. read_points w body (starts begin) 0 no_kinds more)
-    (points_keep up k IsAlive alive_lasts w body (starts (now id.0 + 1)) 0 no_kinds (counted id.0 now)
-    (along up k x (Begin id (now id.0 + 1))) two.0 two.1
-    (other_begins IsAlive alive_lasts (k == id.0) (is_number (up k) id.0) x two.0 h)) in
-    tries_goes (along up k) (along_quiet up k) s (Stays IsAlive) AtMember (domain.retry - 1) id domain
-    (λ now. read_try w id domain body false now) (read_try w id domain body true counts)
-    (member_leaves up k id two.0 here) (λ now x cause h. one_try false now x h) (one_try true counts s q)
+    tries_keep up k IsAlive alive_lasts AtMember w id domain body counts s two.0 (member_leaves up k id two.0 here)
+    (λ h now x other alive. points_keep up k IsAlive alive_lasts w body h 0 no_kinds now x other two.1 alive) q
 
 -- the rest of a group, by how the first member has ended
 abbrev rest_of : NodeEnd → Counts → GroupEnd → State → Type 0

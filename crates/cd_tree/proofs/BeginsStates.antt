@@ -1,5 +1,5 @@
 -- The state of one domain along the record: whether it may begin, and which of its begins are wrong.
-use Rattle.std.proofs.Common.{◌≡◌, ℕ, zero, suc, Bool, true, false, ◌==◌, Option, None, Some, refl}
+use Rattle.std.proofs.Common.{◌≡◌, ℕ, zero, suc, Bool, true, false, not, ◌||◌, ◌==◌, Option, None, Some, refl, sym, subst}
 use Rattle.cd_tree.specs.declared.domain.NodeId.{NodeId}
 use Rattle.cd_tree.specs.declared.event.Event.{Event}
 use Rattle.cd_tree.specs.declared.event.Event.TheVariants.{Begin, Saved, Fell, Lapsed, Refilled, Reached, Halted, Found, Complete, Escalate}
@@ -14,33 +14,26 @@ pub data State : Type 0 where
   over : State
   wrong : State
 
+-- a value for each state, in the order in which they stand above: the tables that follow have one row a function
+abbrev pub by_state : {A : Type 0} → A → A → A → A → A → State → A
+by_state is_ready is_trying is_failed is_over is_wrong ready = is_ready
+by_state is_ready is_trying is_failed is_over is_wrong trying = is_trying
+by_state is_ready is_trying is_failed is_over is_wrong failed = is_failed
+by_state is_ready is_trying is_failed is_over is_wrong over = is_over
+by_state is_ready is_trying is_failed is_over is_wrong wrong = is_wrong
+
+-- the domain begins; its parent begins; its try fails; it ends
 abbrev pub opened : State → State
-opened ready = trying
-opened trying = wrong
-opened failed = trying
-opened over = wrong
-opened wrong = wrong
+opened s = by_state trying wrong trying wrong wrong s
 
 abbrev pub renewed : State → State
-renewed ready = ready
-renewed trying = ready
-renewed failed = ready
-renewed over = ready
-renewed wrong = wrong
+renewed s = by_state ready ready ready ready wrong s
 
 abbrev pub hurt : State → State
-hurt ready = ready
-hurt trying = failed
-hurt failed = failed
-hurt over = over
-hurt wrong = wrong
+hurt s = by_state ready failed failed over wrong s
 
 abbrev pub ended : State → State
-ended ready = ready
-ended trying = over
-ended failed = over
-ended over = over
-ended wrong = wrong
+ended s = by_state ready over over over wrong s
 
 abbrev pub is_number : Option NodeId → ℕ → Bool
 is_number None n = false
@@ -90,29 +83,29 @@ along_quiet up k =
       halted = λ s id kinds. refl;
     }
 
--- no begin was wrong so far
+-- a test that holds
+abbrev pub Kept : Bool → Type 0
+Kept true = Unit {0}
+Kept false = ⊥
+
+-- no begin was wrong so far; the domain may begin; it has not ended
+abbrev is_right : State → Bool
+is_right s = by_state true true true true false s
+
+abbrev is_free : State → Bool
+is_free s = by_state true false true false false s
+
+abbrev is_alive : State → Bool
+is_alive s = by_state true true true false false s
+
 abbrev pub IsRight : State → Type 0
-IsRight ready = Unit {0}
-IsRight trying = Unit {0}
-IsRight failed = Unit {0}
-IsRight over = Unit {0}
-IsRight wrong = ⊥
+IsRight s = Kept (is_right s)
 
--- the domain may begin
 abbrev pub IsFree : State → Type 0
-IsFree ready = Unit {0}
-IsFree trying = ⊥
-IsFree failed = Unit {0}
-IsFree over = ⊥
-IsFree wrong = ⊥
+IsFree s = Kept (is_free s)
 
--- the domain has not ended
 abbrev pub IsAlive : State → Type 0
-IsAlive ready = Unit {0}
-IsAlive trying = Unit {0}
-IsAlive failed = Unit {0}
-IsAlive over = ⊥
-IsAlive wrong = ⊥
+IsAlive s = Kept (is_alive s)
 
 -- in its parent's try a domain may begin, in another's no begin was wrong
 abbrev pub IsFit : Bool → State → Type 0
@@ -124,113 +117,66 @@ pub record Lasts (Q : State → Type 0) : Type 0 where
   pub renews : (s : State) → Q s → Q (renewed s)
   pub hurts : (s : State) → Q s → Q (hurt s)
 
-right_renews : (s : State) → IsRight s → IsRight (renewed s)
-right_renews ready q = tt
-right_renews trying q = tt
-right_renews failed q = tt
-right_renews over q = tt
-right_renews wrong q = q
+-- ---- one test after another, in each of the five states
 
-right_hurts : (s : State) → IsRight s → IsRight (hurt s)
-right_hurts ready q = tt
-right_hurts trying q = tt
-right_hurts failed q = tt
-right_hurts over q = tt
-right_hurts wrong q = q
+-- a test that holds in each state
+abbrev InEach : (State → Bool) → Type 0
+InEach test = (test ready ≡ true) × (test trying ≡ true) × (test failed ≡ true) × (test over ≡ true) × (test wrong ≡ true)
+
+in_this : (test : State → Bool) (s : State) → InEach test → test s ≡ true
+in_this test ready each = each.0
+in_this test trying each = each.1
+in_this test failed each = each.2
+in_this test over each = each.3
+in_this test wrong each = each.4
+
+kept_after : (first then : Bool) → (not first || then) ≡ true → Kept first → Kept then
+kept_after true then leads kept = subst Kept (sym leads) tt
+kept_after false then leads kept = absurd kept
+
+-- where the first test holds the second does, since this is so in each state
+follows : (first then : State → Bool) → InEach (λ s. not (first s) || then s) → (s : State) → Kept (first s) → Kept (then s)
+follows first then each s kept = kept_after (first s) (then s) (in_this (λ x. not (first x) || then x) s each) kept
 
 pub right_lasts : Lasts IsRight
-right_lasts = record { renews = right_renews; hurts = right_hurts }
-
-free_renews : (s : State) → IsFree s → IsFree (renewed s)
-free_renews ready q = tt
-free_renews trying q = tt
-free_renews failed q = tt
-free_renews over q = tt
-free_renews wrong q = q
-
-free_hurts : (s : State) → IsFree s → IsFree (hurt s)
-free_hurts ready q = tt
-free_hurts trying q = tt
-free_hurts failed q = tt
-free_hurts over q = q
-free_hurts wrong q = q
+right_lasts =
+    record { renews = follows is_right (λ s. is_right (renewed s)) (refl, refl, refl, refl, refl); hurts = follows is_right (λ s. is_right (hurt s)) (refl, refl, refl, refl, refl) }
 
 pub free_lasts : Lasts IsFree
-free_lasts = record { renews = free_renews; hurts = free_hurts }
-
-alive_renews : (s : State) → IsAlive s → IsAlive (renewed s)
-alive_renews ready q = tt
-alive_renews trying q = tt
-alive_renews failed q = tt
-alive_renews over q = tt
-alive_renews wrong q = q
-
-alive_hurts : (s : State) → IsAlive s → IsAlive (hurt s)
-alive_hurts ready q = tt
-alive_hurts trying q = tt
-alive_hurts failed q = tt
-alive_hurts over q = q
-alive_hurts wrong q = q
+free_lasts = record { renews = follows is_free (λ s. is_free (renewed s)) (refl, refl, refl, refl, refl); hurts = follows is_free (λ s. is_free (hurt s)) (refl, refl, refl, refl, refl) }
 
 pub alive_lasts : Lasts IsAlive
-alive_lasts = record { renews = alive_renews; hurts = alive_hurts }
+alive_lasts =
+    record { renews = follows is_alive (λ s. is_alive (renewed s)) (refl, refl, refl, refl, refl); hurts = follows is_alive (λ s. is_alive (hurt s)) (refl, refl, refl, refl, refl) }
 
 pub fit_lasts : (b : Bool) → Lasts (IsFit b)
-fit_lasts true = record { renews = free_renews; hurts = free_hurts }
-fit_lasts false = record { renews = right_renews; hurts = right_hurts }
+fit_lasts true = record { renews = free_lasts.renews; hurts = free_lasts.hurts }
+fit_lasts false = record { renews = right_lasts.renews; hurts = right_lasts.hurts }
 
 pub free_right : (s : State) → IsFree s → IsRight s
-free_right ready q = tt
-free_right trying q = tt
-free_right failed q = tt
-free_right over q = tt
-free_right wrong q = q
+free_right = follows is_free is_right (refl, refl, refl, refl, refl)
 
 pub free_alive : (s : State) → IsFree s → IsAlive s
-free_alive ready q = tt
-free_alive trying q = tt
-free_alive failed q = tt
-free_alive over q = q
-free_alive wrong q = q
+free_alive = follows is_free is_alive (refl, refl, refl, refl, refl)
 
 pub alive_right : (s : State) → IsAlive s → IsRight s
-alive_right ready q = tt
-alive_right trying q = tt
-alive_right failed q = tt
-alive_right over q = tt
-alive_right wrong q = q
+alive_right = follows is_alive is_right (refl, refl, refl, refl, refl)
 
 pub fit_right : (b : Bool) (s : State) → IsFit b s → IsRight s
 fit_right true s q = free_right s q
 fit_right false s q = q
 
 pub hurt_free : (s : State) → IsAlive s → IsFree (hurt s)
-hurt_free ready q = tt
-hurt_free trying q = tt
-hurt_free failed q = tt
-hurt_free over q = q
-hurt_free wrong q = q
+hurt_free = follows is_alive (λ s. is_free (hurt s)) (refl, refl, refl, refl, refl)
 
 pub opened_alive : (s : State) → IsFree s → IsAlive (opened s)
-opened_alive ready q = tt
-opened_alive trying q = q
-opened_alive failed q = tt
-opened_alive over q = q
-opened_alive wrong q = q
+opened_alive = follows is_free (λ s. is_alive (opened s)) (refl, refl, refl, refl, refl)
 
 ended_right : (s : State) → IsRight s → IsRight (ended s)
-ended_right ready q = tt
-ended_right trying q = tt
-ended_right failed q = tt
-ended_right over q = tt
-ended_right wrong q = q
+ended_right = follows is_right (λ s. is_right (ended s)) (refl, refl, refl, refl, refl)
 
 renewed_free : (s : State) → IsRight s → IsFree (renewed s)
-renewed_free ready q = tt
-renewed_free trying q = tt
-renewed_free failed q = tt
-renewed_free over q = tt
-renewed_free wrong q = q
+renewed_free = follows is_right (λ s. is_free (renewed s)) (refl, refl, refl, refl, refl)
 
 -- ---- events of other domains
 
@@ -280,5 +226,5 @@ completes_right false s q = q
 
 pub escalates_right : (own member : Bool) (s : State) → IsRight s → IsRight (at_escalate own member s)
 escalates_right true member s q = ended_right s q
-escalates_right false true s q = right_hurts s q
+escalates_right false true s q = right_lasts.hurts s q
 escalates_right false false s q = q

@@ -3,17 +3,11 @@ use Rattle.std.proofs.Common.{◌≡◌, Bool, true, false, ◌&&◌, ◌||◌, 
 use Rattle.std.proofs.lemmas.Bool.{or_left, or_right, or_cases}
 use Rattle.cd_base.specs.declared.place.Place.{Place}
 use Rattle.cd_base.specs.Words.{PlaceSet, in_range, in_ranges}
+use Rattle.cd_base.proofs.BoolLemmas.{same_test}
 use Rattle.cd_tree.specs.Operations.{op_reads, op_writes}
 use Rattle.cd_tree.specs.Domains.{Node, Body, Members, node, stop, run, group, no_more, member, domain_of, Throughout, ThroughoutBody, ThroughoutMembers}
 use Rattle.cd_tree.specs.Meaning.{in_entries, node_reads, node_writes, node_reach, body_reads, body_writes, member_reads, member_writes, uncovered, IsCovered, CoversBody, CoversMembers}
 use Rattle.cd_tree.proofs.Reach.{body_within, node_within}
-
--- two tests that hold together are the same
-same_test : (a b : Bool) → (a ≡ true → b ≡ true) → (b ≡ true → a ≡ true) → a ≡ b
-same_test true true to from = refl
-same_test true false to from = absurd (let wrong : false ≡ true = to refl in cc)
-same_test false true to from = absurd (let wrong : false ≡ true = from refl in cc)
-same_test false false to from = refl
 
 -- a covered domain reaches the places of its entries and no others
 pub reach_is_entries : (d : Node) (p : Place) → IsCovered d → node_reach d p ≡ in_entries (domain_of d).entries p

@@ -10,8 +10,7 @@ use Rattle.cd_tree.specs.KindSets.{no_kinds, has_kind}
 use Rattle.cd_tree.specs.Domains.{Node, Body, Members, node, stop, run, group, no_more, member, put_first, members_by, body_by, node_of, root_of, domain_of, Throughout, ThroughoutBody, ThroughoutMembers}
 use Rattle.cd_tree.specs.TreeModel.{TreeModel, IsTree, NamesChildren, FitsItems}
 use Rattle.cd_tree.specs.Scripts.{IsDetectable, DetectableBody, DetectableMembers, declared_for}
-use Rattle.cd_tree.proofs.View.{domain_fits, nested_view_follows}
-use Rattle.cd_tree.proofs.PathParents.{held}
+use Rattle.cd_tree.proofs.View.{domain_fits, nested_view_follows, held}
 use Rattle.cd_tree.proofs.EachDomain.{Behind, behind_view, root_there, from_each, of_each}
 use Rattle.cd_tree.proofs.DeclaredPaths.{declared_down}
 
@@ -42,59 +41,30 @@ BodyJoins declared above (group members rest) = MembersJoin declared above membe
 abbrev Joins : (NodeId → ℕ) → Node → Type 0
 Joins declared (node id domain body) = BodyJoins declared (declared id) body
 
+both_agree : {A B C D : Type 0} → A ↔ C → B ↔ D → (A × B) ↔ (C × D)
+both_agree first second = (λ (a, b). (first.0 a, second.0 b), λ (c, d). (first.1 c, second.1 d))
+
+-- what is detectable from the root down is declared for each domain, and the other way round
 mutual
-  node_detectable : (faults : List Fault) (declared : NodeId → ℕ) (above : ℕ) (d : Node) → IsJoined declared above d
-      → Throughout (Joins declared) d → Throughout (DeclaredAt faults declared) d → IsDetectable faults above d
-  node_detectable faults declared above (node id domain body) joined (joins, more) (here, below) = (
-    subst (Declares faults id) joined here,
-    subst (λ (kinds : ℕ). DetectableBody faults kinds body) joined
-        (body_detectable faults declared (declared id) body joins more below),
-  )
+  node_agrees : (faults : List Fault) (declared : NodeId → ℕ) (above : ℕ) (d : Node) → IsJoined declared above d
+      → Throughout (Joins declared) d → IsDetectable faults above d ↔ Throughout (DeclaredAt faults declared) d
+  node_agrees faults declared above (node id domain body) joined (joins, more) =
+      subst (λ (kinds : ℕ). (Declares faults id kinds × DetectableBody faults kinds body)
+      ↔ (Declares faults id (declared id) × ThroughoutBody (DeclaredAt faults declared) body)) joined
+      (both_agree (λ here. here, λ here. here) (body_agrees faults declared (declared id) body joins more))
 
-  body_detectable : (faults : List Fault) (declared : NodeId → ℕ) (above : ℕ) (body : Body) → BodyJoins declared above body
-      → ThroughoutBody (Joins declared) body → ThroughoutBody (DeclaredAt faults declared) body → DetectableBody faults above body
-  body_detectable faults declared above stop joined joins below = tt
-  body_detectable faults declared above (run op rest) joined joins below = body_detectable faults declared above rest joined joins below
-  body_detectable faults declared above (group members rest) (joined, more) (joins, others) (here, below) = (
-    members_detectable faults declared above members joined joins here,
-    body_detectable faults declared above rest more others below,
-  )
+  body_agrees : (faults : List Fault) (declared : NodeId → ℕ) (above : ℕ) (body : Body) → BodyJoins declared above body
+      → ThroughoutBody (Joins declared) body → DetectableBody faults above body ↔ ThroughoutBody (DeclaredAt faults declared) body
+  body_agrees faults declared above stop joined joins = (λ none. tt, λ none. tt)
+  body_agrees faults declared above (run op rest) joined joins = body_agrees faults declared above rest joined joins
+  body_agrees faults declared above (group members rest) (joined, more) (joins, others) =
+      both_agree (members_agree faults declared above members joined joins) (body_agrees faults declared above rest more others)
 
-  members_detectable : (faults : List Fault) (declared : NodeId → ℕ) (above : ℕ) (members : Members)
-      → MembersJoin declared above members → ThroughoutMembers (Joins declared) members
-      → ThroughoutMembers (DeclaredAt faults declared) members → DetectableMembers faults above members
-  members_detectable faults declared above no_more joined joins below = tt
-  members_detectable faults declared above (member first rest) (joined, more) (joins, others) (here, below) = (
-    node_detectable faults declared above first joined joins here,
-    members_detectable faults declared above rest more others below,
-  )
-
-mutual
-  node_declared : (faults : List Fault) (declared : NodeId → ℕ) (above : ℕ) (d : Node) → IsJoined declared above d
-      → Throughout (Joins declared) d → IsDetectable faults above d → Throughout (DeclaredAt faults declared) d
-  node_declared faults declared above (node id domain body) joined (joins, more) (here, below) = (
-    subst (Declares faults id) (sym joined) here,
-    body_declared faults declared (declared id) body joins more
-        (subst (λ (kinds : ℕ). DetectableBody faults kinds body) (sym joined) below),
-  )
-
-  body_declared : (faults : List Fault) (declared : NodeId → ℕ) (above : ℕ) (body : Body) → BodyJoins declared above body
-      → ThroughoutBody (Joins declared) body → DetectableBody faults above body → ThroughoutBody (DeclaredAt faults declared) body
-  body_declared faults declared above stop joined joins below = tt
-  body_declared faults declared above (run op rest) joined joins below = body_declared faults declared above rest joined joins below
-  body_declared faults declared above (group members rest) (joined, more) (joins, others) (here, below) = (
-    members_declared faults declared above members joined joins here,
-    body_declared faults declared above rest more others below,
-  )
-
-  members_declared : (faults : List Fault) (declared : NodeId → ℕ) (above : ℕ) (members : Members)
-      → MembersJoin declared above members → ThroughoutMembers (Joins declared) members
-      → DetectableMembers faults above members → ThroughoutMembers (DeclaredAt faults declared) members
-  members_declared faults declared above no_more joined joins below = tt
-  members_declared faults declared above (member first rest) (joined, more) (joins, others) (here, below) = (
-    node_declared faults declared above first joined joins here,
-    members_declared faults declared above rest more others below,
-  )
+  members_agree : (faults : List Fault) (declared : NodeId → ℕ) (above : ℕ) (members : Members) → MembersJoin declared above members
+      → ThroughoutMembers (Joins declared) members → DetectableMembers faults above members ↔ ThroughoutMembers (DeclaredAt faults declared) members
+  members_agree faults declared above no_more joined joins = (λ none. tt, λ none. tt)
+  members_agree faults declared above (member first rest) (joined, more) (joins, others) =
+      both_agree (node_agrees faults declared above first joined joins) (members_agree faults declared above rest more others)
 
 first_joins : (declared : NodeId → ℕ) (above : ℕ) (first : Option Node) (rest : Members)
     → ((d : Node) → first ≡ Some d → IsJoined declared above d) → MembersJoin declared above rest
@@ -167,8 +137,8 @@ at_each tree is faults all id d found =
 from_paths : (tree : TreeModel) → IsTree tree → (faults : List Fault) → AllDeclared tree faults
     → IsDetectable faults no_kinds (root_of tree.domains)
 from_paths tree is faults all =
-    node_detectable faults (declared_for tree.domains) no_kinds (root_of tree.domains) (root_joins tree is)
-    (from_each tree is (Joins (declared_for tree.domains)) (each_joins tree is))
+    (node_agrees faults (declared_for tree.domains) no_kinds (root_of tree.domains) (root_joins tree is)
+    (from_each tree is (Joins (declared_for tree.domains)) (each_joins tree is))).1
     (from_each tree is (DeclaredAt faults (declared_for tree.domains)) (at_each tree is faults all))
 
 to_paths : (tree : TreeModel) → IsTree tree → (faults : List Fault) → IsDetectable faults no_kinds (root_of tree.domains)
@@ -176,8 +146,8 @@ to_paths : (tree : TreeModel) → IsTree tree → (faults : List Fault) → IsDe
 to_paths tree is faults detectable =
     let each : (id : NodeId) (d : Node) → node_of tree.domains id ≡ Some d → DeclaredAt faults (declared_for tree.domains) d =
     of_each tree is (DeclaredAt faults (declared_for tree.domains))
-    (node_declared faults (declared_for tree.domains) no_kinds (root_of tree.domains) (root_joins tree is)
-    (from_each tree is (Joins (declared_for tree.domains)) (each_joins tree is)) detectable) in
+    ((node_agrees faults (declared_for tree.domains) no_kinds (root_of tree.domains) (root_joins tree is)
+    (from_each tree is (Joins (declared_for tree.domains)) (each_joins tree is))).0 detectable) in
     λ k fault below within.
     let id : NodeId = (get_or faults k fault).node in
     let here : Domain = get_or tree.domains id.0 (domain_of (root_of tree.domains)) in

@@ -1,32 +1,34 @@
 -- Where each fault's kind is declared by its domain or by one above it, what a domain leaks or leaves over is declared
 -- above it: so nothing leaves the root.
-use Rattle.std.proofs.Common.{◌≡◌, ℕ, zero, suc, ◌-◌, Bool, true, false, ◌==◌, bit_or, bit_and, IsTrue, List, All, refl, ap, inl, inr}
+use Rattle.std.proofs.Common.{◌≡◌, ℕ, suc, ◌-◌, Bool, true, false, ◌==◌, bit_or, bit_and, IsTrue, List, All, refl, ap, inl, inr}
 use Rattle.std.proofs.lemmas.Bool.{eqb-true}
 use Rattle.cd_tree.specs.declared.domain.NodeId.{NodeId}
-use Rattle.cd_tree.specs.declared.domain.Domain.{Domain}
 use Rattle.cd_tree.specs.declared.document.Fault.{Fault}
 use Rattle.cd_tree.specs.KindSets.{no_kinds, has_kind, kinds_without}
 use Rattle.cd_tree.specs.Scripts.{struck, kinds_of, IsDetectable, DetectableBody, DetectableMembers, IsAccepted}
 use Rattle.cd_tree.specs.Domains.{Node, Body, Members, node, stop, run, group, no_more, member, root_of}
 use Rattle.cd_tree.specs.TreeModel.{TreeModel}
-use Rattle.cd_tree.specs.Reading.{Case, Counts, no_begins, Told, Blame, TryEnd, Passed, Failed, Broken, NodeEnd, Done, Escalated, GroupEnd, AllDone, SomeEscalated, Try, stopped, begun, halted, unless_halted, arrived, judged, detected, group_ended, behind_group, ends_joined, ended, unless_failed, tries, read_node, read_points, read_members}
+use Rattle.cd_tree.specs.Reading.{Case, Counts, no_begins, Told, Blame, TryEnd, NodeEnd, Done, Escalated, GroupEnd, AllDone, SomeEscalated, Try, stopped, begun, halted, unless_halted, arrived, judged, detected, group_ended, behind_group, read_node, read_points, read_members}
 use Rattle.cd_tree.specs.Record.{case_of, reading}
 use Rattle.cd_tree.specs.Laws.{EndsClean}
+use Rattle.cd_tree.proofs.EndKinds.{TryKinds, NodeKinds, GroupKinds, IsGathered, joined_kinds, tries_kinds}
 use Rattle.cd_tree.proofs.DetectedSets.{IsWithin, none_within, or_within, and_within, without_within, apart_within, within_none, struck_within}
 
--- what a try hands up is declared above
+-- what a try, a domain or a group leaks or leaves over is declared above
+abbrev Above : ℕ → ℕ → Type 0
+Above above kinds = IsWithin kinds above
+
 abbrev TryWithin : ℕ → TryEnd → Type 0
-TryWithin above (Passed leak) = IsWithin leak above
-TryWithin above (Failed cause) = Unit {0}
-TryWithin above (Broken cause over) = IsWithin over above
+TryWithin above end = TryKinds (Above above) (Above above) end
 
 abbrev NodeWithin : ℕ → NodeEnd → Type 0
-NodeWithin above (Done leak) = IsWithin leak above
-NodeWithin above (Escalated cause over) = IsWithin over above
+NodeWithin above end = NodeKinds (Above above) (Above above) end
 
 abbrev GroupWithin : ℕ → GroupEnd → Type 0
-GroupWithin above (AllDone leaks) = IsWithin leaks above
-GroupWithin above (SomeEscalated cause over) = IsWithin over above
+GroupWithin above end = GroupKinds (Above above) (Above above) end
+
+gathered_within : (above : ℕ) → IsGathered (Above above)
+gathered_within above = record { none = none_within above; both = λ a b p q. or_within a b above p q }
 
 -- the kinds of a domain's faults are declared by it or above it
 abbrev Declared : Case → NodeId → ℕ → Type 0
@@ -76,40 +78,13 @@ group_ended_within above h notes counts (SomeEscalated cause over) next within l
     stopped_within above cause (kinds_without over h.detects) (kinds_without over h.detects == no_kinds)
     (without_within over above h.detects leak)
 
-ends_joined_within : (above : ℕ) (end : NodeEnd) (rest : GroupEnd)
-    → NodeWithin above end → GroupWithin above rest → GroupWithin above (ends_joined end rest)
-ends_joined_within above (Done leak) (AllDone leaks) p q = or_within leak leaks above p q
-ends_joined_within above (Done leak) (SomeEscalated cause over) p q = q
-ends_joined_within above (Escalated cause over) (AllDone leaks) p q = p
-ends_joined_within above (Escalated cause over) (SomeEscalated other more) p q = or_within over more above p q
-
-ended_within : (above : ℕ) (id : NodeId) (domain : Domain) (t : Told TryEnd) (end : TryEnd)
-    → TryWithin above end → NodeWithin above (ended id domain t end).answer
-ended_within above id domain t (Passed leak) within = within
-ended_within above id domain t (Failed cause) within = none_within above
-ended_within above id domain t (Broken cause over) within = within
-
-unless_failed_within : (above : ℕ) (id : NodeId) (domain : Domain) (t : Told TryEnd) (end : TryEnd) (next : Counts → Told NodeEnd)
-    → TryWithin above end → NodeWithin above (next t.counts).answer → NodeWithin above (unless_failed id domain t end next).answer
-unless_failed_within above id domain t (Passed leak) next within go = within
-unless_failed_within above id domain t (Failed cause) next within go = go
-unless_failed_within above id domain t (Broken cause over) next within go = within
-
-tries_within : (above spare : ℕ) (id : NodeId) (domain : Domain) (again : Counts → Told TryEnd) (t : Told TryEnd)
-    → ((now : Counts) → TryWithin above (again now).answer) → TryWithin above t.answer
-    → NodeWithin above (tries spare id domain again t).answer
-tries_within above zero id domain again t each within = ended_within above id domain t t.answer within
-tries_within above (suc spare) id domain again t each within =
-    unless_failed_within above id domain t t.answer (λ now. tries spare id domain again (again now)) within
-    (tries_within above spare id domain again (again t.counts) each (each t.counts))
-
 mutual
   unfolding read_node
 
   node_within : (w : Case) (above : ℕ) (d : Node) (counts : Counts) → IsDetectable w.faults above d
       → NodeWithin above (read_node w d counts).answer
   node_within w above (node id domain body) counts (declared, below) =
-      tries_within above (domain.retry - 1) id domain
+      tries_kinds (Above above) (Above above) (gathered_within above) (domain.retry - 1) id domain
       (λ now. begun id domain false now
       (λ begin more. read_points w body (record { node = id; detects = domain.detects; begin = begin }) 0 no_kinds more))
       (begun id domain true counts
@@ -140,7 +115,7 @@ mutual
   members_within w above no_more counts below = none_within above
   members_within w above (member first rest) counts (of_first, of_rest) =
       let t : Told NodeEnd = read_node w first counts in
-      ends_joined_within above t.answer (read_members w rest t.counts).answer
+      joined_kinds (Above above) (Above above) (gathered_within above) (gathered_within above) t.answer (read_members w rest t.counts).answer
       (node_within w above first counts of_first) (members_within w above rest t.counts of_rest)
 
 within_none_ends_clean : (end : NodeEnd) → NodeWithin no_kinds end → EndsClean end

@@ -8,8 +8,9 @@ use Rattle.cd_tree.specs.declared.domain.Domain.{Domain}
 use Rattle.cd_tree.specs.Domains.{Node, Body, Members, node, stop, run, group, no_more, member, put_first, members_by, body_by, nodes_from, node_of, root_of, number_of, domain_of, node_numbers, body_numbers, member_numbers, numbers_from, Throughout, ThroughoutBody, ThroughoutMembers}
 use Rattle.cd_tree.specs.TreeModel.{TreeModel, IsTree}
 use Rattle.cd_tree.specs.Laws.{OfEach}
-use Rattle.cd_tree.proofs.Numbers.{Each, each_append, each_at}
-use Rattle.cd_tree.proofs.View.{nested_view_follows}
+use Rattle.cd_base.proofs.ListLemmas.{Each, each_append}
+use Rattle.cd_tree.proofs.Numbers.{each_at}
+use Rattle.cd_tree.proofs.View.{nested_view_follows, length-nodes_from}
 
 mutual
   -- what follows from two properties
@@ -105,15 +106,11 @@ number_there at (domain ∷ domains) (suc k) d is =
     let later : number_of d ≡ suc at + k = number_there (suc at) domains k d is in
     omega arith
 
-as_many : (at : ℕ) (domains : List Domain) → length (nodes_from at domains) ≡ length domains
-as_many at [] = refl
-as_many at (domain ∷ domains) = ap suc (as_many (suc at) domains)
-
 -- the number of a domain that is there
 pub number_within : (domains : List Domain) (id : NodeId) (d : Node) → node_of domains id ≡ Some d → id.0 < length domains
 number_within domains id d found =
     let within : id.0 < length (nodes_from 0 domains) = slice_get_within (nodes_from 0 domains) id.0 d found in
-    omega (arith, as_many 0 domains)
+    omega (arith, length-nodes_from 0 domains)
 
 -- a property that holds from the root of a program down holds of each domain: the walk meets each number
 pub of_each : (tree : TreeModel) → IsTree tree → (P : Node → Type 0) → Throughout P (root_of tree.domains) → OfEach tree P

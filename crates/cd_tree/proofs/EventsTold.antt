@@ -1,5 +1,5 @@
 -- A property of each event that a reading tells: it follows from that of the events of each of its domains.
-use Rattle.std.proofs.Common.{ℕ, zero, suc, ◌+◌, ◌-◌, Bool, true, false, ◌==◌, bit_or, bit_and, List, [], ◌∷◌, ◌++◌, length, is_none, arith}
+use Rattle.std.proofs.Common.{ℕ, zero, suc, ◌+◌, ◌-◌, Bool, true, false, ◌==◌, bit_or, bit_and, List, [], ◌∷◌, length, is_none, arith}
 use Rattle.std.specs.List.{All}
 use Rattle.std.proofs.lemmas.List.Elements.{All-nil, All-cons}
 use Rattle.cd_tree.specs.declared.domain.NodeId.{NodeId}
@@ -12,21 +12,13 @@ use Rattle.cd_tree.specs.KindSets.{no_kinds, kinds_without}
 use Rattle.cd_tree.specs.Scripts.{struck, kinds_of}
 use Rattle.cd_tree.specs.Domains.{Node, Body, Members, node, stop, run, group, no_more, member, domain_of, Throughout, ThroughoutBody, ThroughoutMembers}
 use Rattle.cd_tree.specs.Reading.{Case, Counts, counted, Past, only_events, Told, after, TryEnd, Passed, Failed, Broken, NodeEnd, GroupEnd, AllDone, SomeEscalated, Try, saved_from, refilled_from, prepared, begun, halted, unless_halted, arrived, detected, group_ended, behind_group, with_end, with_member, escalation, ended, unless_failed, tries, read_node, read_points, read_members}
+use Rattle.cd_base.proofs.ListLemmas.{Each, each_append}
 
--- a property of each of these events, one by one
-abbrev pub Every : (Event → Type 0) → List Event → Type 0
-Every P [] = Unit {0}
-Every P (event ∷ events) = P event × Every P events
-
-pub every_append : (P : Event → Type 0) (first second : List Event) → Every P first → Every P second → Every P (first ++ second)
-every_append P [] second p q = q
-every_append P (event ∷ first) second (here, p) q = (here, every_append P first second p q)
-
-pub all_every : (P : Event → Type 0) (events : List Event) → Every P events → All P events
+pub all_every : (P : Event → Type 0) (events : List Event) → Each P events → All P events
 all_every P [] every = All-nil P
 all_every P (event ∷ events) (here, every) = All-cons P event events here (all_every P events every)
 
-pub every_all : (P : Event → Type 0) (events : List Event) → All P events → Every P events
+pub every_all : (P : Event → Type 0) (events : List Event) → All P events → Each P events
 every_all P [] all = tt
 every_all P (event ∷ events) all = (all 0 event (omega arith), every_all P events (λ k d short. all (suc k) d (omega arith)))
 
@@ -44,26 +36,26 @@ abbrev pub id_of : Node → NodeId
 id_of (node id domain body) = id
 
 abbrev pub TellsAll : (Event → Type 0) → Node → Type 0
-TellsAll P d = Tells P (id_of d) × Every P (saved_from (id_of d) 0 (domain_of d).entries)
+TellsAll P d = Tells P (id_of d) × Each P (saved_from (id_of d) 0 (domain_of d).entries)
 
 -- the property of each event that a part of the reading tells
 pub record AllTold {A : Type 0} (P : Event → Type 0) (t : Told A) : Type 0 where
-  pub every : Every P t.past.events
+  pub every : Each P t.past.events
 
-after_all : {A : Type 0} (P : Event → Type 0) (past : Past) (t : Told A) → Every P past.events → AllTold P t → AllTold P (after past t)
-after_all P past t before h = record { every = every_append P past.events t.past.events before h.every }
+after_all : {A : Type 0} (P : Event → Type 0) (past : Past) (t : Told A) → Each P past.events → AllTold P t → AllTold P (after past t)
+after_all P past t before h = record { every = each_append P past.events t.past.events before h.every }
 
-refilled_all : (P : Event → Type 0) (id : NodeId) (at : ℕ) (entries : List Entry) → Tells P id → Every P (refilled_from id at entries)
+refilled_all : (P : Event → Type 0) (id : NodeId) (at : ℕ) (entries : List Entry) → Tells P id → Each P (refilled_from id at entries)
 refilled_all P id at [] own = tt
 refilled_all P id at (entry ∷ entries) own = (own.refilled at, refilled_all P id (suc at) entries own)
 
-prepared_all : (P : Event → Type 0) (id : NodeId) (domain : Domain) (first : Bool) → Tells P id → Every P (saved_from id 0 domain.entries)
-    → Every P (prepared first id domain.entries)
+prepared_all : (P : Event → Type 0) (id : NodeId) (domain : Domain) (first : Bool) → Tells P id → Each P (saved_from id 0 domain.entries)
+    → Each P (prepared first id domain.entries)
 prepared_all P id domain true own saves = saves
 prepared_all P id domain false own saves = refilled_all P id 0 domain.entries own
 
 begun_all : (P : Event → Type 0) (id : NodeId) (domain : Domain) (first : Bool) (counts : Counts) (next : ℕ → Counts → Told TryEnd)
-    → Tells P id → Every P (saved_from id 0 domain.entries) → ((begin : ℕ) (more : Counts) → AllTold P (next begin more))
+    → Tells P id → Each P (saved_from id 0 domain.entries) → ((begin : ℕ) (more : Counts) → AllTold P (next begin more))
     → AllTold P (begun id domain first counts next)
 begun_all P id domain first counts next own saves on =
     after_all P (only_events (Begin id (counts id.0 + 1) ∷ prepared first id domain.entries)) (next (counts id.0 + 1) (counted id.0 counts))
@@ -104,21 +96,21 @@ with_member_all : (P : Event → Type 0) (t : Told NodeEnd) (rest : Counts → T
 with_member_all P t rest first others =
     after_all P t.past (with_end t.answer (rest t.counts)) first.every (record { every = others.every })
 
-pub escalation_all : (P : Event → Type 0) (id : NodeId) (domain : Domain) (root : Bool) → Tells P id → Every P (escalation id domain root)
+pub escalation_all : (P : Event → Type 0) (id : NodeId) (domain : Domain) (root : Bool) → Tells P id → Each P (escalation id domain root)
 escalation_all P id domain true own =
-    every_append P (refilled_from id 0 domain.entries) (Escalate id ∷ []) (refilled_all P id 0 domain.entries own) (own.escalate, tt)
+    each_append P (refilled_from id 0 domain.entries) (Escalate id ∷ []) (refilled_all P id 0 domain.entries own) (own.escalate, tt)
 escalation_all P id domain false own = (own.escalate, tt)
 
-ended_all : (P : Event → Type 0) (id : NodeId) (domain : Domain) (t : Told TryEnd) (end : TryEnd) → Tells P id → Every P t.past.events
+ended_all : (P : Event → Type 0) (id : NodeId) (domain : Domain) (t : Told TryEnd) (end : TryEnd) → Tells P id → Each P t.past.events
     → AllTold P (ended id domain t end)
-ended_all P id domain t (Passed leak) own h = record { every = every_append P t.past.events _ h (own.complete, tt) }
+ended_all P id domain t (Passed leak) own h = record { every = each_append P t.past.events _ h (own.complete, tt) }
 ended_all P id domain t (Failed cause) own h =
-    record { every = every_append P t.past.events _ h (escalation_all P id domain (is_none domain.parent) own) }
+    record { every = each_append P t.past.events _ h (escalation_all P id domain (is_none domain.parent) own) }
 ended_all P id domain t (Broken cause over) own h =
-    record { every = every_append P t.past.events _ h (escalation_all P id domain (is_none domain.parent) own) }
+    record { every = each_append P t.past.events _ h (escalation_all P id domain (is_none domain.parent) own) }
 
 unless_failed_all : (P : Event → Type 0) (id : NodeId) (domain : Domain) (t : Told TryEnd) (end : TryEnd) (next : Counts → Told NodeEnd)
-    → Tells P id → Every P t.past.events → AllTold P (next t.counts) → AllTold P (unless_failed id domain t end next)
+    → Tells P id → Each P t.past.events → AllTold P (next t.counts) → AllTold P (unless_failed id domain t end next)
 unless_failed_all P id domain t (Passed leak) next own h on = ended_all P id domain t (Passed leak) own h
 unless_failed_all P id domain t (Failed cause) next own h on = after_all P (record t.past { repeats = t.past.repeats + 1 }) (next t.counts) h on
 unless_failed_all P id domain t (Broken cause over) next own h on = ended_all P id domain t (Broken cause over) own h

@@ -1,18 +1,18 @@
 -- The children of a domain fill its slice: each stands where the slice of the one before it ends.
-use Rattle.std.proofs.Common.{◌≡◌, ℕ, zero, suc, ◌+◌, ◌-◌, ◌<◌, ◌≤◌, List, [], ◌∷◌, ◌++◌, Option, None, Some, IsSomeAnd, length, get_or, slice_get, refl, ap, sym, ◌∙◌, subst, arith}
+use Rattle.std.proofs.Common.{◌≡◌, ℕ, suc, ◌+◌, ◌-◌, ◌<◌, ◌≤◌, List, [], ◌∷◌, ◌++◌, Option, None, Some, IsSomeAnd, length, get_or, slice_get, refl, ap, sym, ◌∙◌, subst, arith}
 use Rattle.std.specs.Option.{option_map_or}
 use Rattle.std.proofs.lemmas.Option.{slice_get-get_or}
 use Rattle.cd_tree.specs.declared.domain.NodeId.{NodeId}
 use Rattle.cd_tree.specs.declared.domain.Item.{Item}
 use Rattle.cd_tree.specs.declared.domain.Item.TheVariants.{Run, Group}
 use Rattle.cd_tree.specs.declared.domain.Domain.{Domain}
-use Rattle.cd_tree.specs.Domains.{Node, node, put_first, members_by, body_by, nodes_from, node_of, number_of, node_numbers, body_numbers, member_numbers, numbers_from}
+use Rattle.cd_tree.specs.Domains.{Node, node, put_first, members_by, body_by, node_of, number_of, node_numbers, body_numbers, member_numbers, numbers_from}
 use Rattle.cd_tree.specs.TreeModel.{TreeModel, IsTree, NamesChildren, FitsItems}
-use Rattle.cd_tree.specs.Slices.{node_size, IsSlice, slice_end, children_in, FillSlice}
+use Rattle.cd_tree.specs.Slices.{node_size, slice_end, children_in, FillSlice}
 use Rattle.cd_tree.proofs.View.{domain_fits, nested_view_follows}
 use Rattle.cd_tree.proofs.Walk.{length-numbers_from, Parts, numbers_parted}
 use Rattle.cd_tree.proofs.EachDomain.{number_there}
-use Rattle.cd_tree.proofs.Slices.{headed, head_number, parts_long, EndsWithin, slices_end_within, subtrees_are_slices}
+use Rattle.cd_tree.proofs.Slices.{headed, head_number, slices_end_within, subtrees_are_slices}
 
 -- a domain that stands for none
 abbrev nobody : Domain
@@ -68,9 +68,8 @@ fill_members domains (id ∷ ids) more at n behind end ((d, found), there) is en
     let both : node_numbers d ++ later ≡ numbers_from at n =
     ap (λ (o : Option Node). member_numbers (put_first o (members_by (node_of domains) ids))) (sym found) ∙ is in
     let parts : Parts (node_numbers d) later at n = numbers_parted (node_numbers d) later at n both in
-    let long : node_size d + length later ≡ n = parts_long (node_numbers d) later at n both in
     fill_first domains id ids more d at end found parts.front
-    (fill_members domains ids more (at + node_size d) (n - node_size d) behind end there parts.back (omega arith) rest)
+    (fill_members domains ids more (at + node_size d) (n - node_size d) behind end there parts.back (omega (arith, parts.long)) rest)
 
 fill_items : (tree : TreeModel) → IsTree tree → (parent : ℕ) (items : List Item) (at n end : ℕ) → FitsItems tree.domains parent items
     → body_numbers (body_by (node_of tree.domains) items) ≡ numbers_from at n → at + n ≡ end → FillSlice tree.domains at (children_in items) end
@@ -82,9 +81,8 @@ fill_items tree is parent (Group ids ∷ items) at n end (some, few, named, fits
     let here : List ℕ = member_numbers (members_by (node_of tree.domains) ids) in
     let later : List ℕ = body_numbers (body_by (node_of tree.domains) items) in
     let parts : Parts here later at n = numbers_parted here later at n run in
-    let long : length here + length later ≡ n = parts_long here later at n run in
     fill_members tree.domains ids (children_in items) at (length here) (at + length here) end (all_there tree is parent ids named) parts.front refl
-    (fill_items tree is parent items (at + length here) (n - length here) end fits parts.back (omega arith))
+    (fill_items tree is parent items (at + length here) (n - length here) end fits parts.back (omega (arith, parts.long)))
 
 pub children_fill_slices : (tree : TreeModel) → IsTree tree → (id : NodeId) (domain : Domain) → slice_get tree.domains id.0 ≡ Some domain
     → FillSlice tree.domains (suc id.0) (children_in domain.items) (slice_end tree.domains id)

@@ -1,13 +1,13 @@
 -- The last of the children that items name, and the end of its slice.
-use Rattle.std.proofs.Common.{◌≡◌, ℕ, zero, suc, ◌+◌, ◌-◌, ◌<◌, ◌≤◌, List, [], ◌∷◌, ◌++◌, Some, length, take, drop, get_or, slice_get, refl, ap, sym, ◌∙◌, subst, arith}
+use Rattle.std.proofs.Common.{◌≡◌, ℕ, suc, ◌+◌, ◌-◌, ◌<◌, ◌≤◌, List, [], ◌∷◌, ◌++◌, Some, length, take, drop, get_or, slice_get, refl, ap, sym, ◌∙◌, subst, arith}
 use Rattle.std.proofs.lemmas.List.{append_assoc, append-nil, take-append-drop}
+use Rattle.cd_base.proofs.ListLemmas.{drop-read}
 use Rattle.cd_tree.specs.declared.domain.NodeId.{NodeId}
 use Rattle.cd_tree.specs.declared.domain.Item.{Item}
 use Rattle.cd_tree.specs.declared.domain.Item.TheVariants.{Run, Group}
 use Rattle.cd_tree.specs.declared.domain.Domain.{Domain}
 use Rattle.cd_tree.specs.TreeModel.{TreeModel, IsTree}
 use Rattle.cd_tree.specs.Slices.{slice_end, children_in, FillSlice}
-use Rattle.cd_tree.proofs.Walk.{ahead_read}
 use Rattle.cd_tree.proofs.Filled.{children_fill_slices, slice_ends}
 
 -- a child stands last among some
@@ -30,7 +30,7 @@ pub last_of_all : (items : List Item) (k : ℕ) (item : Item) (id : NodeId) → 
 last_of_all items k item id some within is none (front, last) =
     let behind : k - 1 + 1 ≡ k = omega arith in
     let rest : drop (k - 1) items ≡ item ∷ drop k items =
-    ahead_read items (k - 1) item (omega arith) is ∙ ap (λ (n : ℕ). item ∷ drop n items) behind in
+    drop-read items (k - 1) item (omega arith) is ∙ ap (λ (n : ℕ). item ∷ drop n items) behind in
     let tail : children_in (drop (k - 1) items) ≡ front ++ id ∷ [] =
     ap children_in rest ∙ children_more item (drop k items)
     ∙ ap (λ (more : List NodeId). children_in (item ∷ []) ++ more) none

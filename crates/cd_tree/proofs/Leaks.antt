@@ -1,31 +1,31 @@
 -- No leak has a halting kind: a note of one ends its try, so that the notes of a try that goes on have none.
-use Rattle.std.proofs.Common.{◌≡◌, ℕ, zero, suc, ◌-◌, Bool, true, false, ◌==◌, bit_or, bit_and, refl, ap, arith}
+use Rattle.std.proofs.Common.{◌≡◌, ℕ, suc, ◌-◌, Bool, true, false, ◌==◌, bit_or, bit_and, refl, ap, arith}
 use Rattle.std.proofs.lemmas.Bool.{eqb-true}
 use Rattle.std.proofs.lemmas.Nat.Bits.{bit_at_or, bit_at_and, bit_at-zero, same_from_bits}
 use Rattle.std.specs.Int.{bit_at}
 use Rattle.cd_tree.specs.declared.domain.NodeId.{NodeId}
-use Rattle.cd_tree.specs.declared.domain.Domain.{Domain}
 use Rattle.cd_tree.specs.KindSets.{no_kinds, kinds_without}
 use Rattle.cd_tree.specs.Scripts.{struck, kinds_of}
 use Rattle.cd_tree.specs.Domains.{Node, Body, Members, node, stop, run, group, no_more, member}
-use Rattle.cd_tree.specs.Reading.{Case, Counts, Told, Blame, TryEnd, Passed, Failed, Broken, NodeEnd, Done, Escalated, GroupEnd, AllDone, SomeEscalated, Try, stopped, begun, halted, unless_halted, arrived, judged, detected, group_ended, behind_group, ends_joined, ended, unless_failed, tries, read_node, read_points, read_members}
+use Rattle.cd_tree.specs.Reading.{Case, Counts, Told, Blame, TryEnd, NodeEnd, Done, GroupEnd, AllDone, SomeEscalated, Try, stopped, begun, halted, unless_halted, arrived, judged, detected, group_ended, behind_group, read_node, read_points, read_members}
+use Rattle.cd_tree.proofs.EndKinds.{TryKinds, NodeKinds, GroupKinds, IsGathered, joined_kinds, tries_kinds}
 
 -- none of these kinds halts
 abbrev pub Quiet : ℕ → ℕ → Type 0
 Quiet halts kinds = bit_and kinds halts ≡ no_kinds
 
+-- nothing is said of what is over
+abbrev Anything : ℕ → Type 0
+Anything kinds = Unit {0}
+
 abbrev QuietTry : ℕ → TryEnd → Type 0
-QuietTry halts (Passed leak) = Quiet halts leak
-QuietTry halts (Failed cause) = Unit {0}
-QuietTry halts (Broken cause over) = Unit {0}
+QuietTry halts end = TryKinds (Quiet halts) Anything end
 
 abbrev pub QuietNode : ℕ → NodeEnd → Type 0
-QuietNode halts (Done leak) = Quiet halts leak
-QuietNode halts (Escalated cause over) = Unit {0}
+QuietNode halts end = NodeKinds (Quiet halts) Anything end
 
 abbrev pub QuietGroup : ℕ → GroupEnd → Type 0
-QuietGroup halts (AllDone leaks) = Quiet halts leaks
-QuietGroup halts (SomeEscalated cause over) = Unit {0}
+QuietGroup halts end = GroupKinds (Quiet halts) Anything end
 
 pub none_is_quiet : (halts : ℕ) → Quiet halts no_kinds
 none_is_quiet halts = same_from_bits _ _ (λ i. omega (arith, bit_at_and 0 halts i, bit_at-zero i))
@@ -36,6 +36,12 @@ or_is_quiet halts a b p q =
     let here : bit_at (bit_and a halts) i ≡ bit_at 0 i = ap (λ n. bit_at n i) p in
     let there : bit_at (bit_and b halts) i ≡ bit_at 0 i = ap (λ n. bit_at n i) q in
     omega (arith, bit_at_and (bit_or a b) halts i, bit_at_or a b i, bit_at_and a halts i, bit_at_and b halts i, bit_at-zero i))
+
+gathered_quiet : (halts : ℕ) → IsGathered (Quiet halts)
+gathered_quiet halts = record { none = none_is_quiet halts; both = λ a b p q. or_is_quiet halts a b p q }
+
+gathered_anything : IsGathered Anything
+gathered_anything = record { none = tt; both = λ a b p q. tt }
 
 halted_quiet : (all : ℕ) (h : Try) (halts notes : ℕ) (counts : Counts) (b : Bool) → QuietTry all (halted h halts notes counts b).answer
 halted_quiet all h halts notes counts true = tt
@@ -73,39 +79,12 @@ group_ended_quiet all h notes counts (AllDone leaks) next quiet leak go =
 group_ended_quiet all h notes counts (SomeEscalated cause over) next quiet leak go =
     stopped_quiet all cause (kinds_without over h.detects) (kinds_without over h.detects == no_kinds)
 
-ends_joined_quiet : (all : ℕ) (end : NodeEnd) (rest : GroupEnd)
-    → QuietNode all end → QuietGroup all rest → QuietGroup all (ends_joined end rest)
-ends_joined_quiet all (Done leak) (AllDone leaks) p q = or_is_quiet all leak leaks p q
-ends_joined_quiet all (Done leak) (SomeEscalated cause over) p q = tt
-ends_joined_quiet all (Escalated cause over) (AllDone leaks) p q = tt
-ends_joined_quiet all (Escalated cause over) (SomeEscalated other more) p q = tt
-
-ended_quiet : (all : ℕ) (id : NodeId) (domain : Domain) (t : Told TryEnd) (end : TryEnd)
-    → QuietTry all end → QuietNode all (ended id domain t end).answer
-ended_quiet all id domain t (Passed leak) quiet = quiet
-ended_quiet all id domain t (Failed cause) quiet = tt
-ended_quiet all id domain t (Broken cause over) quiet = tt
-
-unless_failed_quiet : (all : ℕ) (id : NodeId) (domain : Domain) (t : Told TryEnd) (end : TryEnd) (next : Counts → Told NodeEnd)
-    → QuietTry all end → QuietNode all (next t.counts).answer → QuietNode all (unless_failed id domain t end next).answer
-unless_failed_quiet all id domain t (Passed leak) next quiet go = quiet
-unless_failed_quiet all id domain t (Failed cause) next quiet go = go
-unless_failed_quiet all id domain t (Broken cause over) next quiet go = tt
-
-tries_quiet : (all spare : ℕ) (id : NodeId) (domain : Domain) (again : Counts → Told TryEnd) (t : Told TryEnd)
-    → ((now : Counts) → QuietTry all (again now).answer) → QuietTry all t.answer
-    → QuietNode all (tries spare id domain again t).answer
-tries_quiet all zero id domain again t each quiet = ended_quiet all id domain t t.answer quiet
-tries_quiet all (suc spare) id domain again t each quiet =
-    unless_failed_quiet all id domain t t.answer (λ now. tries spare id domain again (again now)) quiet
-    (tries_quiet all spare id domain again (again t.counts) each (each t.counts))
-
 mutual
   unfolding read_node
 
   pub node_quiet : (w : Case) (d : Node) (counts : Counts) → QuietNode w.halts (read_node w d counts).answer
   node_quiet w (node id domain body) counts =
-      tries_quiet w.halts (domain.retry - 1) id domain
+      tries_kinds (Quiet w.halts) Anything gathered_anything (domain.retry - 1) id domain
       (λ now. begun id domain false now
       (λ begin more. read_points w body (record { node = id; detects = domain.detects; begin = begin }) 0 no_kinds more))
       (begun id domain true counts
@@ -133,7 +112,7 @@ mutual
   members_quiet w no_more counts = none_is_quiet w.halts
   members_quiet w (member first rest) counts =
       let t : Told NodeEnd = read_node w first counts in
-      ends_joined_quiet w.halts t.answer (read_members w rest t.counts).answer
+      joined_kinds (Quiet w.halts) Anything (gathered_quiet w.halts) gathered_anything t.answer (read_members w rest t.counts).answer
       (node_quiet w first counts) (members_quiet w rest t.counts)
 
 pub no_leak_halts : (w : Case) (d : Node) (counts : Counts) (leak : ℕ) → (read_node w d counts).answer ≡ Done leak

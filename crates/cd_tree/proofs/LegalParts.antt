@@ -17,8 +17,9 @@ use Rattle.cd_tree.specs.TreeModel.{TreeModel}
 use Rattle.cd_tree.specs.Reading.{how_kept}
 use Rattle.cd_tree.specs.Legal.{entry_at, OfPattern, IsPatternAnd, GivesWords, Differs, DiffersFirst, MayStand, MayFall, Legal, nothing, same, fell, lapsed}
 use Rattle.cd_tree.specs.LegalLaws.{LegalPieces, SavesAsDeclared, HasPatternWords, LegalFrontsGoOn, LegalFrontsOfRecords, LegalFront, nothing_yet, same_so_far, fell_so_far, falling, lapsed_so_far, lapsing, LegalFrontsAreFronts}
-use Rattle.cd_tree.proofs.Apart.{Within, within}
-use Rattle.cd_tree.proofs.EventsTold.{Every, every_all}
+use Rattle.cd_base.proofs.PlaceLemmas.{Inside, inside_from}
+use Rattle.cd_base.proofs.ListLemmas.{Each}
+use Rattle.cd_tree.proofs.EventsTold.{every_all}
 use Rattle.cd_tree.proofs.SavesDeclared.{records_save}
 
 legal_append : {tree : TreeModel} {loaded : Words} {actual expected more rest : List Event}
@@ -50,7 +51,7 @@ pub record LeastOther (w : Words) (r : Range) (pattern : Pattern) : Type 0 where
 abbrev place_at : Range → ℕ → Place
 place_at r n = record { region = r.region; index = n }
 
-same_place : (r : Range) (p : Place) (n : ℕ) → Within r p → p.index ≡ n → p ≡ place_at r n
+same_place : (r : Range) (p : Place) (n : ℕ) → Inside r p → p.index ≡ n → p ≡ place_at r n
 same_place r p n in_r e =
     ap (λ (k : ℕ). let at : Place = record { region = k; index = p.index } in at) (sym in_r.region)
     ∙ ap (place_at r) e
@@ -61,7 +62,7 @@ gives_more : (w : Words) (r : Range) (pattern : Pattern) (n : ℕ) → Gives w r
 gives_more w r pattern n gives here p inside below =
     elim (cases_eq p.index n) [
       | inl at ↦
-          let is : p ≡ place_at r n = same_place r p n (within r p inside) at in
+          let is : p ≡ place_at r n = same_place r p n (inside_from r p inside) at in
           subst (λ (q : Place). w q ≡ Some (pattern_word pattern q.index)) (sym is) (here (subst (λ (q : Place). in_range r q ≡ true) is inside))
       | inr before ↦ gives p inside (omega arith)
     ]
@@ -95,7 +96,7 @@ pub gives_or_not : (w : Words) (r : Range) (pattern : Pattern) → ((p : Place) 
     → GivesWords w r pattern ⊎ LeastOther w r pattern
 gives_or_not w r pattern words =
     elim (search_up w r pattern r.high words) [
-      | inl gives ↦ inl (λ p inside. gives p inside (within r p inside).high)
+      | inl gives ↦ inl (λ p inside. gives p inside (inside_from r p inside).high)
       | inr least ↦ inr least
     ]
 
@@ -173,7 +174,7 @@ can_be_told tree loaded (Complete id) words is = stand tree loaded (Complete id)
 can_be_told tree loaded (Escalate id) words is = stand tree loaded (Escalate id) tt
 
 -- whatever the reading expects can be told
-rest_told : (tree : TreeModel) (loaded : Words) (rest : List Event) → HasPatternWords tree loaded → Every (SavesAsDeclared tree) rest
+rest_told : (tree : TreeModel) (loaded : Words) (rest : List Event) → HasPatternWords tree loaded → Each (SavesAsDeclared tree) rest
     → (more : List Event) × Legal tree loaded more rest
 rest_told tree loaded [] words every = ([], nothing)
 rest_told tree loaded (event ∷ rest) words (here, every) =
@@ -186,19 +187,19 @@ legal_fronts_go_on tree loaded words actual front rest all legal =
     let others : (more : List Event) × Legal tree loaded more rest = rest_told tree loaded rest words (every_all (SavesAsDeclared tree) rest all) in
     (others.0, legal_append legal others.1)
 
-every_behind : (P : Event → Type 0) (front rest : List Event) → Every P (front ++ rest) → Every P rest
+every_behind : (P : Event → Type 0) (front rest : List Event) → Each P (front ++ rest) → Each P rest
 every_behind P [] rest every = every
 every_behind P (event ∷ front) rest (here, every) = every_behind P front rest every
 
 pub legal_fronts_of_records : LegalFrontsOfRecords
 legal_fronts_of_records tree faults loaded is words actual front rest e legal =
-    let every : Every (SavesAsDeclared tree) (front ++ rest) =
-    subst (Every (SavesAsDeclared tree)) (sym e) (every_all (SavesAsDeclared tree) _ (records_save tree faults is)) in
+    let every : Each (SavesAsDeclared tree) (front ++ rest) =
+    subst (Each (SavesAsDeclared tree)) (sym e) (every_all (SavesAsDeclared tree) _ (records_save tree faults is)) in
     let others : (more : List Event) × Legal tree loaded more rest = rest_told tree loaded rest words (every_behind (SavesAsDeclared tree) front rest every) in
     (others.0, subst (Legal tree loaded (actual ++ others.0)) e (legal_append legal others.1))
 
 front_goes_on : {tree : TreeModel} {loaded : Words} {actual expected : List Event} → HasPatternWords tree loaded
-    → LegalFront tree loaded actual expected → Every (SavesAsDeclared tree) expected
+    → LegalFront tree loaded actual expected → Each (SavesAsDeclared tree) expected
     → (more : List Event) × Legal tree loaded (actual ++ more) expected
 front_goes_on words (nothing_yet expected) every = rest_told _ _ expected words every
 front_goes_on words (same_so_far event actual expected stands front) (here, every) =

@@ -1,6 +1,7 @@
-mod WorkedForms
+pub mod WorkedForms
 mod Worked
 pub mod KindLemmas
+pub mod RefusalLemmas
 pub mod Potential
 pub mod RepeatsParts
 pub mod RepeatsReading
@@ -14,6 +15,7 @@ mod WorkedWords
 mod WorkedGrid
 mod WorkedTree
 pub mod View
+pub mod EndKinds
 pub mod Leaks
 pub mod DetectedSets
 pub mod Detected
@@ -40,6 +42,7 @@ mod WorkedRefusals
 pub mod Differ
 pub mod Walk
 pub mod Apart
+pub mod ShapeTests
 pub mod BeginsParts
 pub mod BeginsStates
 pub mod BeginsOthers

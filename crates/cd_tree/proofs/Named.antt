@@ -1,5 +1,5 @@
 -- Each domain of a program but the root stands at one place of its parent's groups.
-use Rattle.std.proofs.Common.{◌≡◌, ℕ, zero, suc, ◌+◌, ◌-◌, ◌<◌, ◌≤◌, List, [], ◌∷◌, ◌++◌, Option, None, Some, IsSomeAnd, length, get_or, slice_get, refl, ap, sym, ◌∙◌, subst, arith, inl, inr}
+use Rattle.std.proofs.Common.{◌≡◌, ℕ, zero, suc, ◌-◌, ◌<◌, ◌≤◌, List, [], ◌∷◌, ◌++◌, Option, None, Some, IsSomeAnd, length, slice_get, refl, ap, sym, ◌∙◌, subst, arith, inl, inr}
 use Rattle.std.proofs.lemmas.Bool.{cases_eq}
 use Rattle.std.proofs.lemmas.Option.{slice_get_within, same_Some}
 use Rattle.cd_tree.specs.declared.domain.NodeId.{NodeId}
@@ -7,15 +7,15 @@ use Rattle.cd_tree.specs.declared.domain.Item.{Item}
 use Rattle.cd_tree.specs.declared.domain.Item.TheVariants.{Run, Group}
 use Rattle.cd_tree.specs.declared.domain.Domain.{Domain}
 use Rattle.cd_tree.specs.declared.groups.GroupPlace.{GroupPlace}
-use Rattle.cd_tree.specs.Domains.{Node, Body, Members, node, stop, run, group, no_more, member, put_first, members_by, body_by, nodes_from, node_of, root_of, number_of, body_of, node_numbers, body_numbers, member_numbers, numbers_from, Throughout, ThroughoutBody, ThroughoutMembers}
+use Rattle.cd_tree.specs.Domains.{Node, Body, Members, node, stop, run, group, no_more, member, put_first, members_by, body_by, node_of, root_of, number_of, body_of, node_numbers, body_numbers, member_numbers, numbers_from, Throughout, ThroughoutBody, ThroughoutMembers}
 use Rattle.cd_tree.specs.TreeModel.{TreeModel, IsTree, NamesChildren, FitsItems}
 use Rattle.cd_tree.specs.Laws.{OfEach}
 use Rattle.cd_tree.specs.Slices.{children_in, FillSlice, slice_end}
-use Rattle.cd_tree.specs.Groups.{HasMember, StandsAt, StandsIn}
-use Rattle.cd_tree.proofs.Numbers.{Each, each_append, each_at}
-use Rattle.cd_tree.proofs.View.{domain_fits}
-use Rattle.cd_tree.proofs.EachDomain.{Behind, behind_view, from_each, number_there, root_there}
-use Rattle.cd_tree.proofs.PathParents.{held}
+use Rattle.cd_tree.specs.Groups.{StandsAt, StandsIn}
+use Rattle.cd_base.proofs.ListLemmas.{Each, each_append}
+use Rattle.cd_tree.proofs.Numbers.{each_at}
+use Rattle.cd_tree.proofs.View.{domain_fits, held, first_has_none}
+use Rattle.cd_tree.proofs.EachDomain.{Behind, behind_view, from_each, number_there}
 use Rattle.cd_tree.proofs.Filled.{children_fill_slices}
 
 -- a property of the numbers of the members of a group / of a domain's children
@@ -163,8 +163,7 @@ not_first : (tree : TreeModel) → IsTree tree → (id parent : NodeId) (domain 
 not_first tree is id parent domain there up =
     elim (cases_eq 0 id.0) [
       | inl first ↦
-          let none : domain.parent ≡ None =
-          held (λ d. d.parent ≡ None) (slice_get tree.domains 0) domain (ap (slice_get tree.domains) first ∙ there) is.root in
+          let none : domain.parent ≡ None = first_has_none tree is id domain there first in
           absurd (cc)
       | inr later ↦ omega arith
     ]

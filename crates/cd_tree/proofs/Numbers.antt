@@ -2,18 +2,11 @@
 use Rattle.std.proofs.Common.{◌≡◌, ℕ, subst, inl, inr, zero, suc, ◌+◌, ◌*◌, ◌≤◌, ◌<◌, cond, ◌==◌, List, [], ◌∷◌, ◌++◌, refl, ap, arith, mul-add, add-mul, mul-le-mul_left}
 use Rattle.std.proofs.lemmas.Bool.{cases_eq}
 use Rattle.std.proofs.lemmas.Bool.Decides.{nat_tests}
+use Rattle.cd_base.proofs.ListLemmas.{Each}
 use Rattle.cd_tree.specs.Domains.{numbers_from}
 use Rattle.cd_tree.specs.CountLaws.{copies}
 
--- a property of each of these numbers
-abbrev pub Each : (ℕ → Type 0) → List ℕ → Type 0
-Each Q [] = Unit {0}
-Each Q (k ∷ ks) = Q k × Each Q ks
-
-pub each_append : (Q : ℕ → Type 0) (ks others : List ℕ) → Each Q ks → Each Q others → Each Q (ks ++ others)
-each_append Q [] others p q = q
-each_append Q (k ∷ ks) others (here, p) q = (here, each_append Q ks others p q)
-
+-- a property of each number of a run
 pub each_at : (Q : ℕ → Type 0) (at n k : ℕ) → Each Q (numbers_from at n) → at ≤ k → k < at + n → Q k
 each_at Q at zero k each from below = absurd (omega arith)
 each_at Q at (suc n) k (here, each) from below =

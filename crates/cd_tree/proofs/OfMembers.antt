@@ -1,6 +1,7 @@
 -- What holds of a domain holds of the members of its groups.
-use Rattle.std.proofs.Common.{◌≡◌, ◌⊎◌, ◌↔◌, ℕ, zero, suc, true, List, [], ◌∷◌, Option, None, Some, slice_get, refl, ap, subst, sym, inl, inr}
+use Rattle.std.proofs.Common.{◌≡◌, ◌⊎◌, ◌↔◌, ℕ, zero, suc, true, ◌||◌, List, [], ◌∷◌, Option, None, Some, slice_get, refl, ap, subst, sym, inl, inr}
 use Rattle.std.proofs.lemmas.Bool.{or_left, or_right}
+use Rattle.cd_base.specs.declared.place.Place.{Place}
 use Rattle.cd_base.specs.Words.{PlaceSet}
 use Rattle.cd_tree.specs.declared.domain.NodeId.{NodeId}
 use Rattle.cd_tree.specs.Domains.{Node, Body, Members, node, stop, run, group, no_more, member, domain_of, body_of, put_first, members_by, body_behind, Throughout, ThroughoutBody, ThroughoutMembers}
@@ -33,20 +34,21 @@ members_shapes_fit = throughout_members OwnShapesFit
 pub members_are_disjoint : (d one : Node) (k : ℕ) → IsMemberAt d k one → IsDisjoint d → IsDisjoint one
 members_are_disjoint = throughout_members (λ e. GroupsApart (body_of e))
 
--- what a member reads and writes, the group does
+-- what a member has of places, the group has, where a group has what its first member and the rest have
+group_has : (own : Node → PlaceSet) (all : Members → PlaceSet)
+    → ((first : Node) (rest : Members) (p : Place) → (own first p || all rest p) ≡ true → all (member first rest) p ≡ true)
+    → (members : Members) (one : Node) → IsMember one members → LieIn (own one) (all members)
+group_has own all joins no_more one is = absurd is
+group_has own all joins (member first rest) one (inl same) =
+    λ p h. joins first rest p (or_left (own first p) (all rest p) (let P : Node → Type 0 = λ e. own e p ≡ true in subst P same h))
+group_has own all joins (member first rest) one (inr is) =
+    λ p h. joins first rest p (or_right (own first p) (all rest p) (group_has own all joins rest one is p h))
+
 read_by_group : (members : Members) (one : Node) → IsMember one members → LieIn (node_reads one) (member_reads members)
-read_by_group no_more one is = absurd is
-read_by_group (member first rest) one (inl same) =
-    λ p h. or_left (node_reads first p) (member_reads rest p) (let P : Node → Type 0 = λ e. node_reads e p ≡ true in subst P same h)
-read_by_group (member first rest) one (inr is) =
-    λ p h. or_right (node_reads first p) (member_reads rest p) (read_by_group rest one is p h)
+read_by_group = group_has node_reads member_reads (λ first rest p h. h)
 
 written_by_group : (members : Members) (one : Node) → IsMember one members → LieIn (node_writes one) (member_writes members)
-written_by_group no_more one is = absurd is
-written_by_group (member first rest) one (inl same) =
-    λ p h. or_left (node_writes first p) (member_writes rest p) (let P : Node → Type 0 = λ e. node_writes e p ≡ true in subst P same h)
-written_by_group (member first rest) one (inr is) =
-    λ p h. or_right (node_writes first p) (member_writes rest p) (written_by_group rest one is p h)
+written_by_group = group_has node_writes member_writes (λ first rest p h. h)
 
 pub members_touch_less : (d one : Node) (k : ℕ) → IsMemberAt d k one
     → LieIn (node_reads one) (node_reads d) × LieIn (node_writes one) (node_writes d)

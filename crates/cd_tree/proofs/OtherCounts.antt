@@ -1,7 +1,7 @@
 -- A reading knows no counts but its own: the laws of `CountLaws` on it, and members that are read each by itself.
 use Rattle.std.proofs.Common.{◌≡◌, ℕ, suc, ◌+◌, ◌-◌, ◌≤◌, Bool, true, false, cond, ◌==◌, ◌||◌, List, [], ◌∷◌, ◌++◌, refl, ap, sym, ◌∙◌, subst, arith, inl, inr}
 use Rattle.std.proofs.Math.Path.{fun_ext}
-use Rattle.std.proofs.lemmas.Bool.{cases_Bool}
+use Rattle.std.proofs.lemmas.Bool.{cases_Bool, or_left, or_right}
 use Rattle.std.proofs.lemmas.Bool.Decides.{nat_tests}
 use Rattle.cd_tree.specs.KindSets.{no_kinds}
 use Rattle.cd_tree.specs.Domains.{Node, Body, Members, node, stop, run, group, no_more, member, root_of, node_numbers, body_numbers, member_numbers, Throughout, ThroughoutBody, ThroughoutMembers}
@@ -21,14 +21,6 @@ among_first id rest = same id (among rest id)
   where
     same : (id : ℕ) (b : Bool) → ((id == id) || b) ≡ true
     same id b = grind (arith, nat_tests)
-
-or_left : (a b : Bool) → a ≡ true → (a || b) ≡ true
-or_left true b e = refl
-or_left false b e = cc
-
-pub or_right : (a b : Bool) → b ≡ true → (a || b) ≡ true
-or_right true b e = refl
-or_right false b e = e
 
 pub among_left : (ms ns : List ℕ) (n : ℕ) → among ms n ≡ true → among (ms ++ ns) n ≡ true
 among_left [] ns n e = cc
@@ -99,42 +91,46 @@ agree_on numbers counts other agree =
       | inr there ↦ on_outside (among numbers) counts other n there
     ])
 
+-- a part of the reading, from counts that agree on its numbers: the same, with the others' counts put in
+from_agreement : {A : Type 0} (numbers : List ℕ) (read : Counts → Told A) (counts other : Counts)
+    → read (on (among numbers) counts other) ≡ put (among numbers) other (read counts) → AgreeOn numbers counts other
+    → read other ≡ put (among numbers) other (read counts)
+from_agreement numbers read counts other apart agree = ap read (sym (agree_on numbers counts other agree)) ∙ apart
+
 pub reads_own_counts : ReadsOwnCounts
 reads_own_counts w d counts other agree =
-    ap (read_node w d) (sym (agree_on (node_numbers d) counts other agree))
-    ∙ node_other (among (node_numbers d)) other w d counts (λ n e. e)
+    from_agreement (node_numbers d) (read_node w d) counts other (node_other (among (node_numbers d)) other w d counts (λ n e. e)) agree
 
 pub reads_points_counts : ReadsPointsCounts
 reads_points_counts w body h point notes counts other agree =
-    ap (read_points w body h point notes) (sym (agree_on (body_numbers body) counts other agree))
-    ∙ points_other (among (body_numbers body)) other w body h point notes counts (λ n e. e)
+    from_agreement (body_numbers body) (read_points w body h point notes) counts other
+    (points_other (among (body_numbers body)) other w body h point notes counts (λ n e. e)) agree
 
 pub reads_members_counts : ReadsMembersCounts
 reads_members_counts w members counts other agree =
-    ap (read_members w members) (sym (agree_on (member_numbers members) counts other agree))
-    ∙ members_other (among (member_numbers members)) other w members counts (λ n e. e)
+    from_agreement (member_numbers members) (read_members w members) counts other
+    (members_other (among (member_numbers members)) other w members counts (λ n e. e)) agree
 
--- the counts of others stay
+-- the counts of others stay, where a part of the reading from its own counts is itself with theirs put in
+others_stay : {A : Type 0} (numbers : List ℕ) (t : Told A) (counts : Counts) (n : ℕ) → t ≡ put (among numbers) counts t
+    → among numbers n ≡ false → t.counts n ≡ counts n
+others_stay {A} numbers t counts n own e = ap (λ (x : Told A). x.counts n) own ∙ on_outside (among numbers) t.counts counts n e
+
 pub points_others_stay : (w : Case) (body : Body) (h : Try) (point notes : ℕ) (counts : Counts) (n : ℕ) → among (body_numbers body) n ≡ false
     → (read_points w body h point notes counts).counts n ≡ counts n
 points_others_stay w body h point notes counts n e =
-    let t = read_points w body h point notes counts in
-    ap (λ (x : Told _). x.counts n) (reads_points_counts w body h point notes counts counts (λ k at. refl))
-    ∙ on_outside (among (body_numbers body)) t.counts counts n e
+    others_stay (body_numbers body) (read_points w body h point notes counts) counts n
+    (reads_points_counts w body h point notes counts counts (λ k at. refl)) e
 
 pub members_others_stay : (w : Case) (members : Members) (counts : Counts) (n : ℕ) → among (member_numbers members) n ≡ false
     → (read_members w members counts).counts n ≡ counts n
 members_others_stay w members counts n e =
-    let t : Told GroupEnd = read_members w members counts in
-    ap (λ (x : Told GroupEnd). x.counts n) (reads_members_counts w members counts counts (λ k at. refl))
-    ∙ on_outside (among (member_numbers members)) t.counts counts n e
+    others_stay (member_numbers members) (read_members w members counts) counts n (reads_members_counts w members counts counts (λ k at. refl)) e
 
 pub node_others_stay : (w : Case) (d : Node) (counts : Counts) (n : ℕ) → among (node_numbers d) n ≡ false
     → (read_node w d counts).counts n ≡ counts n
 node_others_stay w d counts n e =
-    let t : Told NodeEnd = read_node w d counts in
-    ap (λ (x : Told NodeEnd). x.counts n) (reads_own_counts w d counts counts (λ k at. refl))
-    ∙ on_outside (among (node_numbers d)) t.counts counts n e
+    others_stay (node_numbers d) (read_node w d counts) counts n (reads_own_counts w d counts counts (λ k at. refl)) e
 
 among_some : (n : ℕ) (numbers : List ℕ) → among numbers n ≡ true → 1 ≤ copies n numbers
 among_some n [] e = cc

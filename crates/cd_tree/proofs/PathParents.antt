@@ -1,6 +1,6 @@
 -- In a program the parent of every domain but the root stands before it: the walk meets each domain as a child of an
 -- earlier one.
-use Rattle.std.proofs.Common.{◌≡◌, ℕ, zero, suc, ◌+◌, ◌-◌, ◌<◌, List, [], ◌∷◌, Option, None, Some, IsSomeAnd, length, slice_get, refl, ap, sym, ◌∙◌, subst, arith}
+use Rattle.std.proofs.Common.{◌≡◌, ℕ, zero, suc, ◌+◌, ◌-◌, ◌<◌, List, [], ◌∷◌, Option, None, Some, IsSomeAnd, length, slice_get, refl, sym, ◌∙◌, subst, arith}
 use Rattle.std.proofs.Common.{inl, inr}
 use Rattle.std.proofs.lemmas.Bool.{cases_eq}
 use Rattle.std.proofs.lemmas.Option.{slice_get_within}
@@ -11,7 +11,9 @@ use Rattle.cd_tree.specs.declared.domain.Domain.{Domain}
 use Rattle.cd_tree.specs.declared.kinds.KindName.{KindName}
 use Rattle.cd_tree.specs.Domains.{Node, node, Members, put_first, members_by, body_by, nodes_from, root_of, number_of, body_of, node_numbers, body_numbers, member_numbers, numbers_from}
 use Rattle.cd_tree.specs.TreeModel.{TreeModel, IsTree, NamesChildren, FitsItems, EachFits}
-use Rattle.cd_tree.proofs.Numbers.{Each, each_append, each_at}
+use Rattle.cd_tree.proofs.View.{held, first_has_none}
+use Rattle.cd_base.proofs.ListLemmas.{Each, each_append}
+use Rattle.cd_tree.proofs.Numbers.{each_at}
 
 -- the domain of this number is there and has a parent before it
 abbrev HasEarlierParent : List Domain → ℕ → Type 0
@@ -89,17 +91,13 @@ below_root kinds all (domain ∷ domains) k fits preorder some below =
     let rest : body_numbers (body_by (λ i. slice_get (nodes_from 1 domains) (i.0 - 1)) domain.items) ≡ numbers_from 1 (length domains) = cc in
     each_at (HasEarlierParent all) 1 (length domains) k (subst (Each (HasEarlierParent all)) rest sound.1) (omega arith) (omega arith)
 
-pub held : (P : Domain → Type 0) (found : Option Domain) (domain : Domain) → found ≡ Some domain → IsSomeAnd found P → P domain
-held P found domain is h = subst (λ (o : Option Domain). IsSomeAnd o P) is h
-
 -- the parent of a domain stands before it
 pub parent_before : (tree : TreeModel) → IsTree tree → (id : NodeId) (domain : Domain) → slice_get tree.domains id.0 ≡ Some domain
     → (parent : NodeId) → domain.parent ≡ Some parent → parent.0 < id.0
 parent_before tree is id domain there parent up =
     elim (cases_eq 0 id.0) [
       | inl first ↦
-          let none : domain.parent ≡ None =
-          held (λ d. d.parent ≡ None) (slice_get tree.domains 0) domain (ap (slice_get tree.domains) first ∙ there) is.root in
+          let none : domain.parent ≡ None = first_has_none tree is id domain there first in
           absurd (cc)
       | inr later ↦
           let earlier : IsSomeAnd domain.parent (λ p. p.0 < id.0) =

@@ -1,23 +1,15 @@
 -- A domain's path is its parent's with its own number behind, and its text the parent's with `/` and its own name.
-use Rattle.std.proofs.Common.{◌≡◌, ℕ, zero, suc, ◌+◌, ◌<◌, List, [], ◌∷◌, ◌++◌, Option, None, Some, IfSome, Result, Ok, Err, OnOk, is_ok, if◌then◌else◌, length, get_or, slice_get, unwrap_or, map, refl, ap, sym, ◌∙◌, subst, append_assoc, arith}
+use Rattle.std.proofs.Common.{◌≡◌, ℕ, zero, suc, ◌+◌, ◌<◌, List, [], ◌∷◌, ◌++◌, Option, None, Some, IfSome, length, get_or, slice_get, unwrap_or, map, refl, ap, sym, ◌∙◌, subst, append_assoc, arith}
 use Rattle.std.specs.List.{join_with_byte}
 use Rattle.std.proofs.lemmas.Option.{slice_get_within, slice_get-get_or}
 use Rattle.std.proofs.lemmas.List.{map-append, length-append}
+use Rattle.cd_base.proofs.ListLemmas.{slice_get-before_last, slice_get-last}
 use Rattle.cd_tree.specs.declared.domain.NodeId.{NodeId}
 use Rattle.cd_tree.specs.declared.domain.Domain.{Domain}
 use Rattle.cd_tree.specs.TreeModel.{TreeModel, IsTree}
 use Rattle.cd_tree.specs.Scripts.{path_under, paths_from, path_of}
 use Rattle.cd_tree.specs.Paths.{name_of, path_text_of}
 use Rattle.cd_tree.proofs.PathParents.{parent_before}
-
-get_before : {X : Type 0} (xs : List X) (x : X) (k : ℕ) → k < length xs → slice_get (xs ++ x ∷ []) k ≡ slice_get xs k
-get_before [] x k below = absurd (omega arith)
-get_before (y ∷ xs) x zero below = refl
-get_before (y ∷ xs) x (suc k) below = get_before xs x k (omega arith)
-
-get_last : {X : Type 0} (xs : List X) (x : X) → slice_get (xs ++ x ∷ []) (length xs) ≡ Some x
-get_last [] x = refl
-get_last (y ∷ xs) x = get_last xs x
 
 -- the path of the next domain, given the paths so far
 abbrev next_path : List (List NodeId) → Domain → List NodeId
@@ -28,7 +20,7 @@ paths_kept : (paths : List (List NodeId)) (domains : List Domain) (k : ℕ) → 
 paths_kept paths [] k below = refl
 paths_kept paths (domain ∷ domains) k below =
     paths_kept (paths ++ next_path paths domain ∷ []) domains k (omega (arith, length-append paths (next_path paths domain ∷ [])))
-    ∙ get_before paths (next_path paths domain) k below
+    ∙ slice_get-before_last paths (next_path paths domain) k below
 
 under_kept : (paths all : List (List NodeId)) (parent : Option NodeId) → IfSome parent (λ p. slice_get all p.0 ≡ slice_get paths p.0)
     → path_under paths parent ≡ path_under all parent
@@ -55,7 +47,7 @@ path_at paths (first ∷ domains) zero domain is earlier =
     (subst (λ (d : Domain). IfSome domain.parent (λ p. slice_get (paths_from (paths ++ next_path paths d ∷ []) domains) p.0 ≡ slice_get paths p.0))
     same (parent_kept paths (first ∷ domains) domain.parent (rw sum at earlier))) in
     let last : slice_get (paths_from more domains) (length paths) ≡ Some one =
-    paths_kept more domains (length paths) (omega (arith, length-append paths (one ∷ []))) ∙ get_last paths one in
+    paths_kept more domains (length paths) (omega (arith, length-append paths (one ∷ []))) ∙ slice_get-last paths one in
     rw (sum, same) (last ∙ ap (λ (path : List NodeId). Some (path ++ record { 0 = length paths } ∷ [])) under)
 path_at paths (first ∷ domains) (suc k) domain is earlier =
     let one : List NodeId = next_path paths first in
@@ -122,12 +114,6 @@ text_of_child tree is id domain there parent up =
     ∙ joined_last 47 (named above) (name_of tree.domains parent) (name_of tree.domains id)
     ∙ ap (λ (n : List (List ℕ)). join_with_byte 47 n ++ 47 ∷ name_of tree.domains id) (sym names)
     ∙ ap (λ (name : List ℕ). path_text_of tree.domains parent ++ 47 ∷ name) (name_there tree.domains id domain there)
-
--- a text with the bytes that a push has added
-pub pushed : {E : Type 0} (result : Result Unit E) (new before added wanted : List ℕ)
-    → new ≡ (if is_ok result then before ++ added else before) → before ++ added ≡ wanted → OnOk result (new ≡ wanted)
-pushed (Ok u) new before added wanted is all = is ∙ all
-pushed (Err e) new before added wanted is all = tt
 
 -- the root's name behind a text
 pub at_root : (tree : TreeModel) → IsTree tree → (id : NodeId) (domain : Domain) → slice_get tree.domains id.0 ≡ Some domain

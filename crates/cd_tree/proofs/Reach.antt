@@ -1,19 +1,11 @@
 -- A covered domain touches places of its entries alone, and computing takes no word away.
 use Rattle.std.proofs.Common.{◌≡◌, ℕ, ◌-◌, Bool, true, false, ◌||◌, cond, Option, Some, IsSome, refl, inl, inr}
-use Rattle.std.proofs.lemmas.Bool.{or_cases}
+use Rattle.std.proofs.lemmas.Bool.{or_left, or_right, or_cases}
 use Rattle.cd_base.specs.declared.place.Place.{Place}
 use Rattle.cd_base.specs.Words.{Words, PlaceSet, in_range, in_ranges}
 use Rattle.cd_tree.specs.Operations.{op_reads, op_writes, op_meaning, column}
 use Rattle.cd_tree.specs.Domains.{Node, Body, Members, node, stop, run, group, no_more, member, domain_of}
 use Rattle.cd_tree.specs.Meaning.{in_entries, node_reads, node_writes, node_reach, body_reads, body_writes, member_reads, member_writes, written, node_meaning, body_meaning, members_meaning, IsCovered, CoversBody, CoversMembers}
-
-or_first : (a b : Bool) → a ≡ true → (a || b) ≡ true
-or_first true b e = refl
-or_first false b e = absurd (cc)
-
-or_second : (a b : Bool) → b ≡ true → (a || b) ≡ true
-or_second true b e = refl
-or_second false b e = e
 
 -- what the members of a group reach lies in the entries that cover them
 pub members_within : (entries : PlaceSet) (members : Members) (p : Place) → CoversMembers entries members
@@ -22,12 +14,12 @@ members_within entries no_more p covered h = absurd (cc)
 members_within entries (member first rest) p covered h =
     elim (or_cases (member_reads (member first rest) p) (member_writes (member first rest) p) h) [
       | inl read ↦ elim (or_cases (node_reads first p) (member_reads rest p) read) [
-        | inl here ↦ covered.0 p (or_first (node_reads first p) (node_writes first p) here)
-        | inr later ↦ members_within entries rest p covered.2 (or_first (member_reads rest p) (member_writes rest p) later)
+        | inl here ↦ covered.0 p (or_left (node_reads first p) (node_writes first p) here)
+        | inr later ↦ members_within entries rest p covered.2 (or_left (member_reads rest p) (member_writes rest p) later)
       ]
       | inr wrote ↦ elim (or_cases (node_writes first p) (member_writes rest p) wrote) [
-        | inl here ↦ covered.0 p (or_second (node_reads first p) (node_writes first p) here)
-        | inr later ↦ members_within entries rest p covered.2 (or_second (member_reads rest p) (member_writes rest p) later)
+        | inl here ↦ covered.0 p (or_right (node_reads first p) (node_writes first p) here)
+        | inr later ↦ members_within entries rest p covered.2 (or_right (member_reads rest p) (member_writes rest p) later)
       ]
     ]
 
@@ -38,23 +30,23 @@ body_within entries stop p covered h = absurd (cc)
 body_within entries (run op rest) p covered h =
     elim (or_cases (body_reads (run op rest) p) (body_writes (run op rest) p) h) [
       | inl read ↦ elim (or_cases (in_ranges (op_reads op) p) (body_reads rest p) read) [
-        | inl here ↦ covered.0 p (or_second (in_range (op_writes op) p) (in_ranges (op_reads op) p) here)
-        | inr later ↦ body_within entries rest p covered.1 (or_first (body_reads rest p) (body_writes rest p) later)
+        | inl here ↦ covered.0 p (or_right (in_range (op_writes op) p) (in_ranges (op_reads op) p) here)
+        | inr later ↦ body_within entries rest p covered.1 (or_left (body_reads rest p) (body_writes rest p) later)
       ]
       | inr wrote ↦ elim (or_cases (in_range (op_writes op) p) (body_writes rest p) wrote) [
-        | inl here ↦ covered.0 p (or_first (in_range (op_writes op) p) (in_ranges (op_reads op) p) here)
-        | inr later ↦ body_within entries rest p covered.1 (or_second (body_reads rest p) (body_writes rest p) later)
+        | inl here ↦ covered.0 p (or_left (in_range (op_writes op) p) (in_ranges (op_reads op) p) here)
+        | inr later ↦ body_within entries rest p covered.1 (or_right (body_reads rest p) (body_writes rest p) later)
       ]
     ]
 body_within entries (group members rest) p covered h =
     elim (or_cases (body_reads (group members rest) p) (body_writes (group members rest) p) h) [
       | inl read ↦ elim (or_cases (member_reads members p) (body_reads rest p) read) [
-        | inl here ↦ members_within entries members p covered.0 (or_first (member_reads members p) (member_writes members p) here)
-        | inr later ↦ body_within entries rest p covered.1 (or_first (body_reads rest p) (body_writes rest p) later)
+        | inl here ↦ members_within entries members p covered.0 (or_left (member_reads members p) (member_writes members p) here)
+        | inr later ↦ body_within entries rest p covered.1 (or_left (body_reads rest p) (body_writes rest p) later)
       ]
       | inr wrote ↦ elim (or_cases (member_writes members p) (body_writes rest p) wrote) [
-        | inl here ↦ members_within entries members p covered.0 (or_second (member_reads members p) (member_writes members p) here)
-        | inr later ↦ body_within entries rest p covered.1 (or_second (body_reads rest p) (body_writes rest p) later)
+        | inl here ↦ members_within entries members p covered.0 (or_right (member_reads members p) (member_writes members p) here)
+        | inr later ↦ body_within entries rest p covered.1 (or_right (body_reads rest p) (body_writes rest p) later)
       ]
     ]
 
@@ -63,9 +55,9 @@ node_within (node id domain body) p covered h =
     elim (or_cases (node_reads (node id domain body) p) (node_writes (node id domain body) p) h) [
       | inl read ↦ elim (or_cases (in_entries domain.entries p) (body_reads body p) read) [
         | inl here ↦ here
-        | inr later ↦ body_within (in_entries domain.entries) body p covered (or_first (body_reads body p) (body_writes body p) later)
+        | inr later ↦ body_within (in_entries domain.entries) body p covered (or_left (body_reads body p) (body_writes body p) later)
       ]
-      | inr wrote ↦ body_within (in_entries domain.entries) body p covered (or_second (body_reads body p) (body_writes body p) wrote)
+      | inr wrote ↦ body_within (in_entries domain.entries) body p covered (or_right (body_reads body p) (body_writes body p) wrote)
     ]
 
 -- a choice between two words is a word

@@ -9,7 +9,7 @@ use Rattle.cd_tree.specs.declared.operation.Op.TheVariants.{Fill, Copy, Add, Sub
 use Rattle.cd_tree.specs.Operations.{column, op_reads, op_writes, op_meaning, length_of, nth_word, total, greatest, product_at, FitsShape}
 use Rattle.cd_tree.specs.Meaning.{LieIn}
 use Rattle.cd_tree.specs.Locality.{SameWords, SameNth, SameFirst, SameSources, in_either}
-use Rattle.cd_tree.proofs.Apart.{Within, within, has_place}
+use Rattle.cd_base.proofs.PlaceLemmas.{Inside, inside_from, inside_to}
 
 -- sums of the same terms are the same
 pub total-same : (f g : ℕ → ℕ) (n : ℕ) → ((j : ℕ) → j < n → f j ≡ g j) → total f n ≡ total g n
@@ -79,7 +79,7 @@ column_is_local (Spmv d s c values x) v w i (from, to, columns, words, vector) =
 nth_same : (r : Range) (v w : Words) → SameWords (in_range r) v w → SameFirst r (length_of r) v w
 nth_same r v w same j below =
     let p : Place = record { region = r.region; index = r.low + j } in
-    ap (λ (o : Option ℕ). unwrap_or o 0) (same p (has_place r p refl (omega arith) (omega arith)))
+    ap (λ (o : Option ℕ). unwrap_or o 0) (same p (inside_to r p (record { region = refl; low = omega arith; high = omega arith })))
 
 -- of the first of some ranges, and of the others
 in_first : (r : Range) (rs : List Range) (v w : Words) → SameWords (in_ranges (r ∷ rs)) v w → SameFirst r (length_of r) v w
@@ -146,7 +146,7 @@ pub operation_is_local : (op : Op) (v w : Words) → FitsShape op → SameWords 
     → SameWords (in_range (op_writes op)) (op_meaning op v) (op_meaning op w)
 operation_is_local op v w shape same p inside =
     let d : Range = op_writes op in
-    let at : Within d p = within d p inside in
+    let at : Inside d p = inside_from d p inside in
     let low : d.low ≤ p.index = at.low in
     let high : p.index < d.high = at.high in
     choice_same (in_range d p) (Some (column op v (p.index - d.low))) (Some (column op w (p.index - d.low))) (v p) (w p)

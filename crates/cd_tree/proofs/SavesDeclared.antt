@@ -11,11 +11,12 @@ use Rattle.cd_tree.specs.Record.{record_of, case_of}
 use Rattle.cd_tree.specs.Legal.{entry_at}
 use Rattle.cd_tree.specs.LegalLaws.{SavesAsDeclared, ReadingsSaveAsDeclared, RecordsSaveAsDeclared}
 use Rattle.cd_tree.proofs.EachDomain.{Behind, behind_view, views_throughout, root_there}
-use Rattle.cd_tree.proofs.EventsTold.{Every, all_every, Tells, TellsAll, node_all}
+use Rattle.cd_base.proofs.ListLemmas.{Each}
+use Rattle.cd_tree.proofs.EventsTold.{all_every, Tells, TellsAll, node_all}
 
 -- the entries from `at` on of a domain that is there
 saved_as_declared : (tree : TreeModel) (id : NodeId) (at : ℕ) (entries : List Entry)
-    → ((k : ℕ) → entry_at tree.domains id (at + k) ≡ slice_get entries k) → Every (SavesAsDeclared tree) (saved_from id at entries)
+    → ((k : ℕ) → entry_at tree.domains id (at + k) ≡ slice_get entries k) → Each (SavesAsDeclared tree) (saved_from id at entries)
 saved_as_declared tree id at [] same = tt
 saved_as_declared tree id at (entry ∷ entries) same =
     let first : at ≡ at + 0 = omega arith in
@@ -26,7 +27,7 @@ saved_as_declared tree id at (entry ∷ entries) same =
     )
 
 saves_there : (tree : TreeModel) (id : NodeId) (domain : Domain) → slice_get tree.domains id.0 ≡ Some domain
-    → Every (SavesAsDeclared tree) (saved_from id 0 domain.entries)
+    → Each (SavesAsDeclared tree) (saved_from id 0 domain.entries)
 saves_there tree id domain is =
     saved_as_declared tree id 0 domain.entries
     (λ k.

@@ -1,13 +1,10 @@
 -- Subtrees are slices: the numbers below a run of numbers are runs, and members follow each other in them.
-use Rattle.std.proofs.Common.{◌≡◌, ℕ, zero, suc, ◌+◌, ◌-◌, ◌<◌, ◌≤◌, Bool, true, false, ◌||◌, ◌&&◌, ◌==◌, nat_le, nat_lt, List, [], ◌∷◌, ◌++◌, length, refl, ap, sym, ◌∙◌, subst, arith}
+use Rattle.std.proofs.Common.{◌≡◌, ℕ, zero, suc, ◌+◌, ◌-◌, ◌≤◌, Bool, false, ◌||◌, ◌==◌, List, ◌∷◌, length, ap, sym, ◌∙◌, arith}
 use Rattle.std.proofs.lemmas.Bool.Decides.{nat_tests}
-use Rattle.std.proofs.lemmas.List.{length-append}
-use Rattle.cd_tree.specs.declared.domain.NodeId.{NodeId}
-use Rattle.cd_tree.specs.declared.domain.Domain.{Domain}
-use Rattle.cd_tree.specs.Domains.{Node, Body, Members, node, stop, run, group, no_more, member, node_of, root_of, number_of, body_of, node_numbers, body_numbers, member_numbers, numbers_from, Throughout, ThroughoutBody, ThroughoutMembers}
+use Rattle.cd_tree.specs.Domains.{Node, Body, Members, node, stop, run, group, no_more, member, root_of, number_of, body_of, node_numbers, body_numbers, member_numbers, numbers_from, Throughout, ThroughoutBody, ThroughoutMembers}
 use Rattle.cd_tree.specs.TreeModel.{TreeModel, IsTree}
 use Rattle.cd_tree.specs.Laws.{OfEach}
-use Rattle.cd_tree.specs.Slices.{node_size, members_size, IsSlice, among, in_slice, MembersFollow, GroupsFollow}
+use Rattle.cd_tree.specs.Slices.{node_size, IsSlice, among, in_slice, MembersFollow, GroupsFollow}
 use Rattle.cd_tree.proofs.Walk.{length-numbers_from, Parts, numbers_parted}
 use Rattle.cd_tree.proofs.EachDomain.{of_each}
 
@@ -25,10 +22,6 @@ headed number below at zero is = absurd (cc)
 headed number below at (suc n) is =
     let tail : below ≡ numbers_from (suc at) n = cc in
     record { here = cc; rest = as_long below (suc at) n tail }
-
--- two lists that are a run of numbers together are no longer than it
-pub parts_long : (ks ms : List ℕ) (at n : ℕ) → ks ++ ms ≡ numbers_from at n → length ks + length ms ≡ n
-parts_long ks ms at n is = sym (length-append ks ms) ∙ ap length is ∙ length-numbers_from at n
 
 -- a subtree is a slice, and ends within some numbers
 pub record EndsWithin (end : ℕ) (d : Node) : Type 0 where
@@ -58,11 +51,9 @@ mutual
   body_sliced (run op rest) at n end is within = body_sliced rest at n end is within
   body_sliced (group members rest) at n end is within =
       let parts : Parts (member_numbers members) (body_numbers rest) at n =
-      numbers_parted (member_numbers members) (body_numbers rest) at n is in
-      let long : length (member_numbers members) + length (body_numbers rest) ≡ n =
-      parts_long (member_numbers members) (body_numbers rest) at n is in (
-        members_sliced members at (length (member_numbers members)) end parts.front (omega arith),
-        body_sliced rest (at + length (member_numbers members)) (n - length (member_numbers members)) end parts.back (omega arith),
+      numbers_parted (member_numbers members) (body_numbers rest) at n is in (
+        members_sliced members at (length (member_numbers members)) end parts.front (omega (arith, parts.long)),
+        body_sliced rest (at + length (member_numbers members)) (n - length (member_numbers members)) end parts.back (omega (arith, parts.long)),
       )
 
   members_sliced : (members : Members) (at n end : ℕ) → member_numbers members ≡ numbers_from at n → at + n ≤ end
@@ -70,11 +61,9 @@ mutual
   members_sliced no_more at n end is within = tt
   members_sliced (member first rest) at n end is within =
       let parts : Parts (node_numbers first) (member_numbers rest) at n =
-      numbers_parted (node_numbers first) (member_numbers rest) at n is in
-      let long : length (node_numbers first) + length (member_numbers rest) ≡ n =
-      parts_long (node_numbers first) (member_numbers rest) at n is in (
-        node_sliced first at (length (node_numbers first)) end parts.front (omega arith),
-        members_sliced rest (at + length (node_numbers first)) (n - length (node_numbers first)) end parts.back (omega arith),
+      numbers_parted (node_numbers first) (member_numbers rest) at n is in (
+        node_sliced first at (length (node_numbers first)) end parts.front (omega (arith, parts.long)),
+        members_sliced rest (at + length (node_numbers first)) (n - length (node_numbers first)) end parts.back (omega (arith, parts.long)),
       )
 
 pub slices_end_within : (tree : TreeModel) → IsTree tree → OfEach tree (EndsWithin (length tree.domains))

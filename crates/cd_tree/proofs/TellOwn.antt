@@ -1,5 +1,6 @@
 -- A reading tells events of its own domains alone.
 use Rattle.std.proofs.Common.{◌≡◌, ℕ, Bool, true, List, [], ◌∷◌}
+use Rattle.std.proofs.lemmas.Bool.{or_right}
 use Rattle.cd_tree.specs.declared.domain.NodeId.{NodeId}
 use Rattle.cd_tree.specs.declared.domain.Entry.{Entry}
 use Rattle.cd_tree.specs.declared.event.Event.{Event}
@@ -7,8 +8,9 @@ use Rattle.cd_tree.specs.Domains.{Node, Body, Members, node, stop, run, group, n
 use Rattle.cd_tree.specs.Reading.{Case, Counts, saved_from, read_node, read_members}
 use Rattle.cd_tree.specs.FrontLaws.{teller_of, DomainsTellTheirOwn}
 use Rattle.cd_tree.specs.Slices.{among}
-use Rattle.cd_tree.proofs.EventsTold.{Every, all_every, Tells, TellsAll, node_all, members_all}
-use Rattle.cd_tree.proofs.OtherCounts.{Holds, among_first, or_right, among_left, among_right}
+use Rattle.cd_base.proofs.ListLemmas.{Each}
+use Rattle.cd_tree.proofs.EventsTold.{all_every, Tells, TellsAll, node_all, members_all}
+use Rattle.cd_tree.proofs.OtherCounts.{Holds, among_first, among_left, among_right}
 
 -- the teller's number is in the set
 abbrev pub TellerIn : (ℕ → Bool) → Event → Type 0
@@ -18,7 +20,7 @@ own_tells : (P : ℕ → Bool) (id : NodeId) → P id.0 ≡ true → Tells (Tell
 own_tells P id e =
     record { begin = λ n. e; refilled = λ n. e; reached = λ n. e; halted = λ n. e; found = λ n. e; complete = e; escalate = e }
 
-own_saves : (P : ℕ → Bool) (id : NodeId) (at : ℕ) (entries : List Entry) → P id.0 ≡ true → Every (TellerIn P) (saved_from id at entries)
+own_saves : (P : ℕ → Bool) (id : NodeId) (at : ℕ) (entries : List Entry) → P id.0 ≡ true → Each (TellerIn P) (saved_from id at entries)
 own_saves P id at [] e = tt
 own_saves P id at (entry ∷ entries) e = (e, own_saves P id _ entries e)
 
@@ -49,7 +51,7 @@ domains_tell_their_own w d counts =
     all_every (TellerIn P) (read_node w d counts).past.events (node_all (TellerIn P) w d counts (node_tells P d (λ n e. e))).every
 
 pub members_tell_own : (w : Case) (members : Members) (counts : Counts)
-    → Every (TellerIn (among (member_numbers members))) (read_members w members counts).past.events
+    → Each (TellerIn (among (member_numbers members))) (read_members w members counts).past.events
 members_tell_own w members counts =
     let P : ℕ → Bool = among (member_numbers members) in
     (members_all (TellerIn P) w members counts (members_tell P members (λ n e. e))).every

@@ -1,12 +1,15 @@
 -- The nested view of a program, domain by domain.
-use Rattle.std.proofs.Common.{◌≡◌, ℕ, zero, suc, ◌+◌, ◌-◌, ◌<◌, ◌≤◌, List, [], ◌∷◌, Option, Some, slice_get, refl, ap, sym, ◌∙◌, arith, inl, inr}
+use Rattle.std.proofs.Common.{◌≡◌, ℕ, zero, suc, ◌+◌, ◌-◌, ◌<◌, ◌≤◌, List, [], ◌∷◌, length, Option, None, Some, IsSomeAnd, All, slice_get, refl, ap, sym, subst, ◌∙◌, arith, inl, inr}
 use Rattle.std.proofs.lemmas.Bool.{cases_eq}
+use Rattle.std.proofs.lemmas.List.Elements.{All-nil, All-cons}
+use Rattle.std.proofs.lemmas.Option.{slice_get_within}
+use Rattle.cd_base.proofs.ListLemmas.{some_of}
 use Rattle.cd_tree.specs.declared.domain.NodeId.{NodeId}
 use Rattle.cd_tree.specs.declared.domain.Item.{Item}
 use Rattle.cd_tree.specs.declared.domain.Item.TheVariants.{Run, Group}
 use Rattle.cd_tree.specs.declared.domain.Domain.{Domain}
 use Rattle.cd_tree.specs.declared.kinds.KindName.{KindName}
-use Rattle.cd_tree.specs.Domains.{Node, node, Body, members_by, body_by, nodes_from, node_of}
+use Rattle.cd_tree.specs.Domains.{Node, node, Body, member, put_first, members_by, body_by, nodes_from, node_of}
 use Rattle.cd_tree.specs.TreeModel.{TreeModel, IsTree, NamesChildren, FitsItems, FitsDomain, EachFits}
 
 -- each of these numbers is above a number
@@ -104,6 +107,9 @@ items_name_later domains at (Run op ∷ items) (full, shape, fits) = items_name_
 items_name_later domains at (Group ids ∷ items) (some, few, named, fits) =
     (names_children_later domains at ids named, items_name_later domains at items fits)
 
+-- ---- what a program says of one of its domains
+
+-- each of some domains that fit fits
 pub fits_at : (kinds : List KindName) (all : List Domain) (at : ℕ) (domains : List Domain) (k : ℕ) (domain : Domain)
     → EachFits kinds all at domains → slice_get domains k ≡ Some domain → FitsDomain kinds all (at + k) domain
 fits_at kinds all at [] k domain fits is = absurd (cc)
@@ -143,3 +149,39 @@ pub nested_view_follows : (tree : TreeModel) → IsTree tree → (id : NodeId) (
     → node_of tree.domains id ≡ Some (node id domain (body_by (node_of tree.domains) domain.items))
 nested_view_follows tree is id domain there =
     nested_view_follows_where tree.domains id domain there (tree_names_later tree is id domain there)
+
+-- ---- what is there of a program
+
+-- a program has as many views as domains
+pub length-nodes_from : (at : ℕ) (domains : List Domain) → length (nodes_from at domains) ≡ length domains
+length-nodes_from at [] = refl
+length-nodes_from at (domain ∷ domains) = ap suc (length-nodes_from (suc at) domains)
+
+-- the domain of a number in the list
+pub domain_here : (domains : List Domain) (n : ℕ) → n < length domains → (domain : Domain) × (slice_get domains n ≡ Some domain)
+domain_here [] n within = absurd (omega arith)
+domain_here (first ∷ rest) zero within = (first, refl)
+domain_here (first ∷ rest) (suc n) within = domain_here rest n (omega arith)
+
+-- the members that a group names are there
+pub members_here : (domains : List Domain) (at : ℕ) (ids : List NodeId) → NamesChildren domains at ids
+    → All (λ (id : NodeId). id.0 < length domains) ids
+members_here domains at [] named = All-nil (λ (id : NodeId). id.0 < length domains)
+members_here domains at (id ∷ ids) (above, child, named) =
+    let found = some_of (slice_get domains id.0) (λ d. d.parent ≡ Some (record { 0 = at })) child in
+    All-cons (λ (i : NodeId). i.0 < length domains) id ids (slice_get_within domains id.0 found.0 found.1) (members_here domains at ids named)
+
+-- the members of a group whose first is found
+pub members_by-found : (find : NodeId → Option Node) (id : NodeId) (ids : List NodeId) (d : Node) → find id ≡ Some d
+    → members_by find (id ∷ ids) ≡ member d (members_by find ids)
+members_by-found find id ids d found = ap (λ (o : Option Node). put_first o (members_by find ids)) found
+
+-- what holds of a domain that is there
+pub held : (P : Domain → Type 0) (found : Option Domain) (domain : Domain) → found ≡ Some domain → IsSomeAnd found P → P domain
+held P found domain is h = subst (λ (o : Option Domain). IsSomeAnd o P) is h
+
+-- the first domain of a program has no parent
+pub first_has_none : (tree : TreeModel) → IsTree tree → (id : NodeId) (domain : Domain) → slice_get tree.domains id.0 ≡ Some domain
+    → 0 ≡ id.0 → domain.parent ≡ None
+first_has_none tree is id domain there first =
+    held (λ d. d.parent ≡ None) (slice_get tree.domains 0) domain (ap (slice_get tree.domains) first ∙ there) is.root

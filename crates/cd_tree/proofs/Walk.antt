@@ -1,6 +1,7 @@
 -- Walks over a list of domains: of two walks one behind the other, and of a walk down a list.
 use Rattle.std.proofs.Common.{◌≡◌, ◌≢◌, ◌↔◌, ◌⊎◌, inl, inr, ℕ, zero, suc, ◌+◌, ◌-◌, ◌<◌, ◌≤◌, max, List, [], ◌∷◌, ◌++◌, Option, None, Some, length, drop, get_or, slice_get, refl, sym, ap, subst, ◌∙◌, arith}
-use Rattle.std.proofs.lemmas.List.{append-nil, drop_more, drop_all}
+use Rattle.std.proofs.lemmas.List.{append-nil, drop_all, length-append}
+use Rattle.cd_base.proofs.ListLemmas.{drop-read}
 use Rattle.cd_tree.specs.declared.domain.NodeId.{NodeId}
 use Rattle.cd_tree.specs.declared.domain.Item.{Item}
 use Rattle.cd_tree.specs.declared.domain.Item.TheVariants.{Run, Group}
@@ -26,8 +27,13 @@ numbers_joined at (suc m) n behind is =
     let many : suc (m + n) ≡ suc m + n = omega arith in
     ap (λ (rest : List ℕ). at ∷ rest) (numbers_joined (suc at) m n behind (omega arith)) ∙ ap (numbers_from at) many
 
--- two lists that are a run of numbers together
+-- two lists that are a run of numbers together are as long as it
+parts_long : (xs ys : List ℕ) (at n : ℕ) → xs ++ ys ≡ numbers_from at n → length xs + length ys ≡ n
+parts_long xs ys at n is = sym (length-append xs ys) ∙ ap length is ∙ length-numbers_from at n
+
+-- each of them is a run of numbers
 pub record Parts (xs ys : List ℕ) (at n : ℕ) : Type 0 where
+  pub long : length xs + length ys ≡ n
   pub front : xs ≡ numbers_from at (length xs)
   pub back : ys ≡ numbers_from (at + length xs) (n - length xs)
 
@@ -35,7 +41,7 @@ pub numbers_parted : (xs ys : List ℕ) (at n : ℕ) → xs ++ ys ≡ numbers_fr
 numbers_parted [] ys at n is =
     let here : at ≡ at + 0 = omega arith in
     let many : n ≡ n - 0 = omega arith in
-    record { front = refl; back = is ∙ ap (λ (k : ℕ). numbers_from k n) here ∙ ap (numbers_from (at + 0)) many }
+    record { long = parts_long [] ys at n is; front = refl; back = is ∙ ap (λ (k : ℕ). numbers_from k n) here ∙ ap (numbers_from (at + 0)) many }
 numbers_parted (x ∷ xs) ys at zero is = absurd (cc)
 numbers_parted (x ∷ xs) ys at (suc n) is =
     let head : x ≡ at = cc in
@@ -44,6 +50,7 @@ numbers_parted (x ∷ xs) ys at (suc n) is =
     let here : suc at + length xs ≡ at + suc (length xs) = omega arith in
     let many : n - length xs ≡ suc n - suc (length xs) = omega arith in
     record {
+      long = parts_long (x ∷ xs) ys at (suc n) is;
       front =
           ap (λ (k : ℕ). k ∷ xs) head
           ∙ ap (λ (ks : List ℕ). at ∷ ks) rest.front;
@@ -120,10 +127,6 @@ members_join find =
       deeper = λ id ids. first_depth (find id) (members_by find ids);
     }
 
--- the element at an index stands before those behind it
-pub ahead_read : {X : Type 0} (xs : List X) (i : ℕ) (x : X) → i < length xs → x ≡ get_or xs i x → drop i xs ≡ x ∷ drop (i + 1) xs
-ahead_read xs i x within is = drop_more xs i x within ∙ ap (λ y. y ∷ drop (i + 1) xs) (sym is)
-
 -- what the walk over the rest of a list answers is the answer for the whole list
 abbrev pub LeavesWhole : {X : Type 0} → (List X → List ℕ) → (List X → ℕ) → List X → ℕ → ℕ → ℕ → ℕ → Type 0
 LeavesWhole numbers depth all i next at levels =
@@ -134,7 +137,7 @@ pub walk_on : {X : Type 0} (numbers : List X → List ℕ) (depth : List X → �
     → LeavesWhole numbers depth all i next at levels → LeavesWhole numbers depth all (i + 1) behind at levels
 walk_on numbers depth joins all i x at next behind levels within is here whole end rest =
     let left : List _ = drop (i + 1) all in
-    let ahead : drop i all ≡ x ∷ left = ahead_read all i x within is in
+    let ahead : drop i all ≡ x ∷ left = drop-read all i x within is in
     whole end
     (walk_same (numbers (x ∷ []) ++ numbers left) (numbers (drop i all)) (max (depth (x ∷ [])) (depth left)) (depth (drop i all)) next levels end
     (sym (ap numbers ahead ∙ joins.first x left)) (sym (ap depth ahead ∙ joins.deeper x left))
@@ -145,7 +148,7 @@ pub walk_off : {X : Type 0} (numbers : List X → List ℕ) (depth : List X → 
     → LeavesWhole numbers depth all i next at levels → WalkGives (numbers all) (depth all) at levels None
 walk_off numbers depth joins all i x at next levels within is here whole =
     let left : List _ = drop (i + 1) all in
-    let ahead : drop i all ≡ x ∷ left = ahead_read all i x within is in
+    let ahead : drop i all ≡ x ∷ left = drop-read all i x within is in
     whole None
     (walk_same (numbers (x ∷ []) ++ numbers left) (numbers (drop i all)) (max (depth (x ∷ [])) (depth left)) (depth (drop i all)) next levels None
     (sym (ap numbers ahead ∙ joins.first x left)) (sym (ap depth ahead ∙ joins.deeper x left))

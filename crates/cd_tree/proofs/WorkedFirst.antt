@@ -12,21 +12,16 @@ use Rattle.cd_tree.specs.Domains.{Body, Members, stop, run, group, members_by, n
 use Rattle.cd_tree.specs.Meaning.{initial, node_meaning}
 use Rattle.cd_tree.specs.FirstItems.{first_items, meaning_of_first, body_length, waiting_words, resumed_words}
 use Rattle.cd_tree.specs.Absorbing.{absorbed}
-use Rattle.cd_tree.proofs.WorkedForms.{number, root, inner, part, copied, words_of}
+use Rattle.cd_tree.proofs.WorkedForms.{number, root, inner, part, copied, y, z, words_of}
 
+-- a third region beside y and z
 abbrev x : Range
-x = part 0 0 3
-
-abbrev y : Range
-y = part 1 0 3
-
-abbrev z : Range
-z = part 2 0 3
+x = part 2 0 4
 
 abbrev regions : List Region
 regions =
-    record { name = []; length = 3; pattern = Const 1 } ∷ record { name = []; length = 3; pattern = Iota 1 1 }
-    ∷ record { name = []; length = 3; pattern = Const 0 } ∷ []
+    record { name = []; length = 4; pattern = Iota 1 1 } ∷ record { name = []; length = 4; pattern = Const 0 }
+    ∷ record { name = []; length = 4; pattern = Const 1 } ∷ []
 
 -- a root that fills x with 2, has a member that adds x to y and one that sums x up in z, and adds z to y
 abbrev three : List Domain
@@ -42,47 +37,34 @@ whole = body_of (root_of three)
 abbrev members : Members
 members = members_by (node_of three) (number 1 ∷ number 2 ∷ [])
 
-abbrev after_first : ℕ → Words
-after_first k = meaning_of_first k whole (initial regions)
+-- the words of x, y and z
+abbrev all_words : Words → List (List ℕ)
+all_words w = words_of w 2 4 ∷ words_of w 0 4 ∷ words_of w 1 4 ∷ []
+
+-- the same after the first k items
+abbrev after_first : ℕ → List (List ℕ)
+after_first k = all_words (meaning_of_first k whole (initial regions))
 
 three_items : body_length whole ≡ 3
 three_items = refl
 
-x_after_none : words_of (after_first 0) 0 3 ≡ 1 ∷ 1 ∷ 1 ∷ []
-x_after_none = refl
+after_none : after_first 0 ≡ (1 ∷ 1 ∷ 1 ∷ 1 ∷ []) ∷ (1 ∷ 2 ∷ 3 ∷ 4 ∷ []) ∷ (0 ∷ 0 ∷ 0 ∷ 0 ∷ []) ∷ []
+after_none = refl
 
-y_after_none : words_of (after_first 0) 1 3 ≡ 1 ∷ 2 ∷ 3 ∷ []
-y_after_none = refl
+after_the_fill : after_first 1 ≡ (2 ∷ 2 ∷ 2 ∷ 2 ∷ []) ∷ (1 ∷ 2 ∷ 3 ∷ 4 ∷ []) ∷ (0 ∷ 0 ∷ 0 ∷ 0 ∷ []) ∷ []
+after_the_fill = refl
 
-z_after_none : words_of (after_first 0) 2 3 ≡ 0 ∷ 0 ∷ 0 ∷ []
-z_after_none = refl
+after_the_group : after_first 2 ≡ (2 ∷ 2 ∷ 2 ∷ 2 ∷ []) ∷ (3 ∷ 4 ∷ 5 ∷ 6 ∷ []) ∷ (2 ∷ 4 ∷ 6 ∷ 8 ∷ []) ∷ []
+after_the_group = refl
 
-x_after_one : words_of (after_first 1) 0 3 ≡ 2 ∷ 2 ∷ 2 ∷ []
-x_after_one = refl
-
-y_after_one : words_of (after_first 1) 1 3 ≡ 1 ∷ 2 ∷ 3 ∷ []
-y_after_one = refl
-
-z_after_one : words_of (after_first 1) 2 3 ≡ 0 ∷ 0 ∷ 0 ∷ []
-z_after_one = refl
-
-x_after_two : words_of (after_first 2) 0 3 ≡ 2 ∷ 2 ∷ 2 ∷ []
-x_after_two = refl
-
-y_after_two : words_of (after_first 2) 1 3 ≡ 3 ∷ 4 ∷ 5 ∷ []
-y_after_two = refl
-
-z_after_two : words_of (after_first 2) 2 3 ≡ 2 ∷ 4 ∷ 6 ∷ []
-z_after_two = refl
-
-y_after_three : words_of (after_first 3) 1 3 ≡ 5 ∷ 8 ∷ 11 ∷ []
-y_after_three = refl
+after_three : after_first 3 ≡ (2 ∷ 2 ∷ 2 ∷ 2 ∷ []) ∷ (5 ∷ 8 ∷ 11 ∷ 14 ∷ []) ∷ (2 ∷ 4 ∷ 6 ∷ 8 ∷ []) ∷ []
+after_three = refl
 
 -- all three are the whole, and a fourth there is not
-all_of_them : words_of (node_meaning (root_of three) (initial regions)) 1 3 ≡ 5 ∷ 8 ∷ 11 ∷ []
+all_of_them : all_words (node_meaning (root_of three) (initial regions)) ≡ after_first 3
 all_of_them = refl
 
-no_fourth : words_of (after_first 4) 1 3 ≡ 5 ∷ 8 ∷ 11 ∷ []
+no_fourth : after_first 4 ≡ after_first 3
 no_fourth = refl
 
 -- behind the first item stands the group, and behind the first two the last operation
@@ -109,26 +91,22 @@ gives n = node_meaning (unwrap_or (node_of three (number n)) (root_of three)) wa
 abbrev taken : Words
 taken = absorbed members (gives 1 ∷ gives 2 ∷ []) waits
 
-taken_y : words_of taken 1 3 ≡ words_of (resumed_words (root_of three) 1 (initial regions)) 1 3
-taken_y = refl
-
-taken_z : words_of taken 2 3 ≡ 2 ∷ 4 ∷ 6 ∷ []
-taken_z = refl
+taken_words : all_words taken ≡ all_words (resumed_words (root_of three) 1 (initial regions))
+taken_words = refl
 
 -- the second member does not see what the first has written, nor is it overwritten: in the other order it is the same
 abbrev turned : Words
 turned = absorbed (members_by (node_of three) (number 2 ∷ number 1 ∷ [])) (gives 2 ∷ gives 1 ∷ []) waits
 
-turned_y : words_of turned 1 3 ≡ 3 ∷ 4 ∷ 5 ∷ []
-turned_y = refl
-
-turned_z : words_of turned 2 3 ≡ 2 ∷ 4 ∷ 6 ∷ []
-turned_z = refl
+turned_words : all_words turned ≡ all_words taken
+turned_words = refl
 
 -- a source that is too short is read past its end: words that agree on it may give others, so the shape has to be right
-short_source : words_of (op_meaning (Copy (part 0 0 3) (part 1 0 1)) (initial regions)) 0 3 ≡ 1 ∷ 2 ∷ 3 ∷ []
+abbrev beyond : Words → List ℕ
+beyond w = words_of (op_meaning (Copy y (part 1 0 1)) w) 0 4
+
+short_source : beyond (initial regions) ≡ 0 ∷ 0 ∷ 0 ∷ 0 ∷ []
 short_source = refl
 
-other_behind_source : words_of (op_meaning (Copy (part 0 0 3) (part 1 0 1)) (op_meaning (Fill (part 1 1 3) 9) (initial regions))) 0 3
-    ≡ 1 ∷ 9 ∷ 9 ∷ []
+other_behind_source : beyond (op_meaning (Fill (part 1 1 4) 9) (initial regions)) ≡ 0 ∷ 9 ∷ 9 ∷ 9 ∷ []
 other_behind_source = refl

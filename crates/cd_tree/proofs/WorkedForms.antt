@@ -1,9 +1,10 @@
 -- Short forms in which the worked cases are written.
-use Rattle.std.proofs.Common.{ℕ, List, [], None, Some, map}
+use Rattle.std.proofs.Common.{ℕ, List, [], ◌∷◌, ◌++◌, None, Some, map}
 use Rattle.cd_base.specs.declared.place.Range.{Range}
 use Rattle.cd_base.specs.Words.{Words, word_at}
 use Rattle.cd_tree.specs.declared.domain.NodeId.{NodeId}
 use Rattle.cd_tree.specs.declared.domain.Item.{Item}
+use Rattle.cd_tree.specs.declared.domain.Item.TheVariants.{Run, Group}
 use Rattle.cd_tree.specs.declared.domain.How.TheVariants as how
 use Rattle.cd_tree.specs.declared.domain.Entry.{Entry}
 use Rattle.cd_tree.specs.declared.domain.Domain.{Domain}
@@ -11,6 +12,7 @@ use Rattle.cd_tree.specs.declared.document.Fault.{Fault}
 use Rattle.cd_tree.specs.declared.event.Kept.TheVariants as kept
 use Rattle.cd_tree.specs.declared.event.Event.{Event}
 use Rattle.cd_tree.specs.declared.event.Event.TheVariants as told
+use Rattle.cd_tree.specs.declared.operation.Op.TheVariants.{Fill}
 use Rattle.cd_tree.specs.Domains.{numbers_from, root_of}
 use Rattle.cd_tree.specs.Reading.{Case, Counts, Told, NodeEnd, no_begins, read_node}
 
@@ -33,6 +35,21 @@ copied range = record { range = range; how = how.Copy }
 
 abbrev pub referred : Range → Entry
 referred range = record { range = range; how = how.Refer }
+
+-- two regions of four words
+abbrev pub y : Range
+y = part 0 0 4
+
+abbrev pub z : Range
+z = part 1 0 4
+
+-- a root with two tries that finds node (kind 3), with a group of two domains that find flip (kind 0) and have one try each
+abbrev pub pair : List Domain
+pair =
+    root 2 8 (copied y ∷ copied z ∷ []) (Group (number 1 ∷ number 2 ∷ []) ∷ [])
+    ∷ inner 0 1 1 (copied y ∷ []) (Run (Fill y 7) ∷ [])
+    ∷ inner 0 1 1 (copied z ∷ []) (Run (Fill z 9) ∷ [])
+    ∷ []
 
 -- a strike on a place of region 0
 abbrev pub strike : ℕ → ℕ → ℕ → ℕ → ℕ → ℕ → Fault
@@ -77,3 +94,34 @@ complete n = told.Complete (number n)
 
 abbrev pub escalate : ℕ → Event
 escalate n = told.Escalate (number n)
+
+-- ---- events that stand together
+
+-- a domain with one entry begins a first try, and a later one
+abbrev pub opened : ℕ → ℕ → List Event
+opened n count = begin n count ∷ saved n 0 ∷ reached n 0 ∷ []
+
+abbrev pub again : ℕ → ℕ → List Event
+again n count = begin n count ∷ refilled n 0 ∷ reached n 0 ∷ []
+
+-- a domain comes to its last point, finds these kinds, and so ends or begins again
+abbrev pub judged : ℕ → ℕ → ℕ → List Event
+judged n point kinds = reached n point ∷ found n kinds ∷ []
+
+-- the first try of a domain with one entry and one operation, up to its end
+abbrev pub leaf : ℕ → ℕ → ℕ → Event → List Event
+leaf n count kinds end = opened n count ++ judged n 1 kinds ++ end ∷ []
+
+-- ---- what a reading comes to
+
+-- its events, how it ends, and the counts of the first n domains
+abbrev pub outcome : {A : Type 0} → ℕ → Told A → List Event × A × List ℕ
+outcome n told = (told.past.events, told.answer, counts_of told.counts n)
+
+-- the same without the events
+abbrev pub ending : {A : Type 0} → ℕ → Told A → A × List ℕ
+ending n told = (told.answer, counts_of told.counts n)
+
+-- how many of its tries were repeats, and how many faults struck
+abbrev pub tallied : {A : Type 0} → Told A → ℕ × ℕ
+tallied told = (told.past.repeats, told.past.strikes)

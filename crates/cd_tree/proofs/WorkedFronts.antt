@@ -1,8 +1,7 @@
 -- Worked cases of fronts: where the tries of a domain end, where kinds halt, where a domain waits; and of counts.
-use Rattle.std.proofs.Common.{◌≡◌, ℕ, true, false, List, [], ◌∷◌, Option, None, Some, refl}
+use Rattle.std.proofs.Common.{◌≡◌, ℕ, true, false, List, [], ◌∷◌, ◌++◌, Option, None, Some, refl}
 use Rattle.std.specs.Option.{option_map}
-use Rattle.cd_base.specs.declared.place.Range.{Range}
-use Rattle.cd_tree.specs.declared.domain.Item.TheVariants.{Run, Group}
+use Rattle.cd_tree.specs.declared.domain.Item.TheVariants.{Run}
 use Rattle.cd_tree.specs.declared.domain.Domain.{Domain}
 use Rattle.cd_tree.specs.declared.document.Fault.{Fault}
 use Rattle.cd_tree.specs.declared.event.Event.{Event}
@@ -12,13 +11,7 @@ use Rattle.cd_tree.specs.Reading.{Case, Counts, Told, SomeEscalated, blame, no_b
 use Rattle.cd_tree.specs.Fronts.{Front, front_of_node, WaitsAt}
 use Rattle.cd_tree.specs.CountLaws.{counts_on, copies, read_each}
 use Rattle.cd_tree.specs.Slices.{among}
-use Rattle.cd_tree.proofs.WorkedForms.{number, root, inner, part, copied, strike, case_with, counts_of, begin, saved, refilled, reached, halted, found, complete, escalate}
-
-abbrev y : Range
-y = part 0 0 4
-
-abbrev z : Range
-z = part 1 0 4
+use Rattle.cd_tree.proofs.WorkedForms.{number, root, copied, y, pair, strike, case_with, counts_of, begin, saved, refilled, reached, halted, found, complete, escalate, leaf, outcome}
 
 abbrev events_of : Option (Told Front) → Option (List Event)
 events_of front = option_map (λ (f : Told Front). f.past.events) front
@@ -96,14 +89,6 @@ left_behind = refl
 none_left : body_behind 3 (body_of (root_of noting)) ≡ stop
 none_left = refl
 
--- a root with a group of two
-abbrev pair : List Domain
-pair =
-    root 2 8 (copied y ∷ copied z ∷ []) (Group (number 1 ∷ number 2 ∷ []) ∷ [])
-    ∷ inner 0 1 1 (copied y ∷ []) (Run (Fill y 7) ∷ [])
-    ∷ inner 0 1 1 (copied z ∷ []) (Run (Fill z 9) ∷ [])
-    ∷ []
-
 abbrev members : Members
 members = members_by (node_of pair) (number 1 ∷ number 2 ∷ [])
 
@@ -135,16 +120,7 @@ number_copies = refl
 abbrev third : Case
 third = case_with 0 (strike 1 3 1 0 2 1 ∷ [])
 
-each_counts : counts_of (read_each third members before before).counts 3 ≡ 0 ∷ 3 ∷ 1 ∷ []
+each_outcome : outcome 3 (read_each third members before before)
+    ≡ (leaf 1 3 1 (escalate 1) ++ leaf 2 1 0 (complete 2), SomeEscalated (blame (number 1) 1) 0, 0 ∷ 3 ∷ 1 ∷ [])
 unfolding read_node
-each_counts = refl
-
-each_answer : (read_each third members before before).answer ≡ SomeEscalated (blame (number 1) 1) 0
-unfolding read_node
-each_answer = refl
-
-each_events : (read_each third members before before).past.events
-    ≡ begin 1 3 ∷ saved 1 0 ∷ reached 1 0 ∷ reached 1 1 ∷ found 1 1 ∷ escalate 1
-    ∷ begin 2 1 ∷ saved 2 0 ∷ reached 2 0 ∷ reached 2 1 ∷ found 2 0 ∷ complete 2 ∷ []
-unfolding read_node
-each_events = refl
+each_outcome = refl

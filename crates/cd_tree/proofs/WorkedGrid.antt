@@ -14,14 +14,9 @@ use Rattle.cd_tree.proofs.WorkedForms.{number, root, inner, part, copied, referr
 abbrev starts : ℕ → ℕ → Range
 starts low high = part 0 low high
 
-abbrev cols : Range
-cols = part 1 0 512
-
-abbrev vals : Range
-vals = part 2 0 512
-
-abbrev x : Range
-x = part 3 0 512
+-- what no block writes: columns, values and the vector
+abbrev shared : ℕ → Range
+shared region = part region 0 512
 
 abbrev y : ℕ → ℕ → Range
 y low high = part 4 low high
@@ -31,22 +26,22 @@ abbrev rows : ℕ → ℕ → Domain
 rows a b =
     let low : ℕ = 64 * a + 16 * b in
     inner (1 + 5 * a) 3 1
-    (referred (starts low (low + 17)) ∷ referred cols ∷ referred vals ∷ referred x ∷ referred (y low (low + 16)) ∷ [])
-    (Run (Spmv (y low (low + 16)) (starts low (low + 17)) cols vals x) ∷ [])
+    (referred (starts low (low + 17)) ∷ referred (shared 1) ∷ referred (shared 2) ∷ referred (shared 3) ∷ referred (y low (low + 16)) ∷ [])
+    (Run (Spmv (y low (low + 16)) (starts low (low + 17)) (shared 1) (shared 2) (shared 3)) ∷ [])
 
 -- part a: 64 rows, two tries, finds lost and link (kinds 1 and 2)
 abbrev part_with_rows : ℕ → List Domain
 part_with_rows a =
     let at : ℕ = 1 + 5 * a in
     inner 0 2 6
-    (referred (starts (64 * a) (64 * a + 65)) ∷ referred cols ∷ referred vals ∷ referred x ∷ copied (y (64 * a) (64 * a + 64)) ∷ [])
+    (referred (starts (64 * a) (64 * a + 65)) ∷ referred (shared 1) ∷ referred (shared 2) ∷ referred (shared 3) ∷ copied (y (64 * a) (64 * a + 64)) ∷ [])
     (Group (number (at + 1) ∷ number (at + 2) ∷ number (at + 3) ∷ number (at + 4) ∷ []) ∷ [])
     ∷ rows a 0 ∷ rows a 1 ∷ rows a 2 ∷ rows a 3 ∷ []
 
 -- the root: three tries, finds node (kind 3)
 abbrev grid : List Domain
 grid =
-    root 3 8 (copied (starts 0 257) ∷ copied cols ∷ copied vals ∷ copied x ∷ copied (y 0 256) ∷ [])
+    root 3 8 (copied (starts 0 257) ∷ copied (shared 1) ∷ copied (shared 2) ∷ copied (shared 3) ∷ copied (y 0 256) ∷ [])
     (Group (number 1 ∷ number 6 ∷ number 11 ∷ number 16 ∷ []) ∷ [])
     ∷ part_with_rows 0 ++ part_with_rows 1 ++ part_with_rows 2 ++ part_with_rows 3
 

@@ -2,19 +2,20 @@
 use Rattle.std.specs.Prelude.{ℕ, ◌+◌, ◌/◌, ◌%◌, ◌^◌, Bool, ◌&&◌, nat_lt, ◌==◌, bit_or, bit_and, bit_xor, if◌then◌else◌, List, [], ◌∷◌}
 use Rattle.cd_tree.specs.declared.kinds.Kind.{Kind}
 use Rattle.cd_tree.specs.declared.kinds.KindName.{KindName}
+use Rattle.cd_tree.specs.Limits.{kinds_limit}
 
 abbrev pub no_kinds : ℕ
 no_kinds = 0
 
--- the set of one kind; a number from 16 on is no kind
+-- the set of one kind; a number at the limit or above is no kind
 abbrev pub only_kind : Kind → ℕ
-only_kind kind = if nat_lt kind.0 16 then 2 ^ kind.0 else 0
+only_kind kind = if nat_lt kind.0 kinds_limit then 2 ^ kind.0 else 0
 
 abbrev pub with_kind : ℕ → Kind → ℕ
 with_kind kinds kind = bit_or kinds (only_kind kind)
 
 abbrev pub has_kind : ℕ → Kind → Bool
-has_kind kinds kind = nat_lt kind.0 16 && ((kinds / 2 ^ kind.0) % 2 == 1)
+has_kind kinds kind = nat_lt kind.0 kinds_limit && ((kinds / 2 ^ kind.0) % 2 == 1)
 
 -- the kinds of the first set that are not in the second
 abbrev pub kinds_without : ℕ → ℕ → ℕ

@@ -1,5 +1,6 @@
 -- The limits of texts and of what they describe: of each the most that is taken. What is above one is refused by its name.
-use Rattle.std.specs.Prelude.{ℕ}
+-- And the size of a block.
+use Rattle.std.specs.Prelude.{ℕ, ◌+◌, ◌/◌}
 
 -- the bytes of a text
 abbrev pub text_limit : ℕ
@@ -55,3 +56,7 @@ members_limit = 256
 -- the blocks that a program needs
 abbrev pub need_limit : ℕ
 need_limit = 65536
+
+-- the blocks that so many words take: a block has 64 words
+abbrev pub blocks_for : ℕ → ℕ
+blocks_for n = (n + 63) / 64

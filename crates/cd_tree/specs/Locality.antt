@@ -19,6 +19,31 @@ SameWords places v w = (p : Place) → places p ≡ true → v p ≡ w p
 abbrev pub in_either : PlaceSet → PlaceSet → PlaceSet
 in_either first second p = first p || second p
 
+-- What sees what it reads alone, leaves others and keeps agreement: said once of anything that fits, that reads and writes
+-- places, and that means other words for words; then of operations, domains and bodies.
+
+-- what it writes comes from what it reads alone
+abbrev pub SeesItsReads : {A : Type 0} → (A → Type 0) → (A → PlaceSet) → (A → PlaceSet) → (A → Words → Words) → Type 0
+SeesItsReads {A} Fits reads writes meaning = (x : A) (v w : Words) → Fits x → SameWords (reads x) v w → SameWords (writes x) (meaning x v) (meaning x w)
+
+-- it changes no word but those that it writes
+abbrev pub LeavesOthers : {A : Type 0} → (A → PlaceSet) → (A → Words → Words) → Type 0
+LeavesOthers {A} writes meaning = (x : A) (w : Words) (p : Place) → writes x p ≡ false → meaning x w p ≡ w p
+
+-- words that agree in places that hold what it reads agree, after it, there and where it writes
+abbrev pub KeepsAgreement : {A : Type 0} → (A → Type 0) → (A → PlaceSet) → (A → PlaceSet) → (A → Words → Words) → Type 0
+KeepsAgreement {A} Fits reads writes meaning =
+    (x : A) (places : PlaceSet) (v w : Words) → Fits x → LieIn (reads x) places → SameWords places v w
+    → SameWords (in_either places (writes x)) (meaning x v) (meaning x w)
+
+-- all three
+pub record ActsLocally {A : Type 0} (Fits : A → Type 0) (reads writes : A → PlaceSet) (meaning : A → Words → Words) : Type 0 where
+  pub written : SeesItsReads Fits reads writes meaning
+  pub others : LeavesOthers writes meaning
+  pub agreement : KeepsAgreement Fits reads writes meaning
+
+-- ---- operations
+
 -- the i-th word of a range is the same
 abbrev pub SameNth : Range → Words → Words → ℕ → Type 0
 SameNth r v w i = nth_word v r i ≡ nth_word w r i
@@ -48,21 +73,11 @@ SameSources (Spmv d s c values x) v w i =
 abbrev pub ColumnIsLocal : Type 0
 ColumnIsLocal = (op : Op) (v w : Words) (i : ℕ) → SameSources op v w i → column op v i ≡ column op w i
 
--- what an operation writes comes from its sources alone; where its shape is wrong it may read past their ends
-abbrev pub OperationIsLocal : Type 0
-OperationIsLocal =
-    (op : Op) (v w : Words) → FitsShape op → SameWords (in_ranges (op_reads op)) v w
-    → SameWords (in_range (op_writes op)) (op_meaning op v) (op_meaning op w)
+-- an operation of the right shape; one of a wrong shape may read past the ends of its sources
+abbrev pub OperationsActLocally : Type 0
+OperationsActLocally = ActsLocally FitsShape (λ op. in_ranges (op_reads op)) (λ op. in_range (op_writes op)) op_meaning
 
--- an operation changes no word but those of its destination
-abbrev pub OperationLeavesOthers : Type 0
-OperationLeavesOthers = (op : Op) (w : Words) (p : Place) → in_range (op_writes op) p ≡ false → op_meaning op w p ≡ w p
-
--- words that agree in places that hold the sources agree, after the operation, there and in the destination
-abbrev pub OperationKeepsAgreement : Type 0
-OperationKeepsAgreement =
-    (op : Op) (places : PlaceSet) (v w : Words) → FitsShape op → LieIn (in_ranges (op_reads op)) places → SameWords places v w
-    → SameWords (in_either places (in_range (op_writes op))) (op_meaning op v) (op_meaning op w)
+-- ---- domains and bodies
 
 -- the operations of a body itself have the right shape
 abbrev pub ShapesFit : Body → Type 0
@@ -92,38 +107,18 @@ CoveredInPrograms = (tree : TreeModel) → IsTree tree → IsCovered (root_of tr
 abbrev pub DisjointInPrograms : Type 0
 DisjointInPrograms = (tree : TreeModel) → IsTree tree → IsDisjoint (root_of tree.domains) → OfEach tree IsDisjoint
 
--- what a domain writes comes from what it reads alone
-abbrev pub MeaningIsLocal : Type 0
-MeaningIsLocal =
-    (d : Node) (v w : Words) → AllShapesFit d → SameWords (node_reads d) v w
-    → SameWords (node_writes d) (node_meaning d v) (node_meaning d w)
+abbrev pub DomainsActLocally : Type 0
+DomainsActLocally = ActsLocally AllShapesFit node_reads node_writes node_meaning
 
--- a domain changes no word but those that it writes
-abbrev pub OthersStay : Type 0
-OthersStay = (d : Node) (w : Words) (p : Place) → node_writes d p ≡ false → node_meaning d w p ≡ w p
+-- a body has no entries of its own
+abbrev pub BodiesActLocally : Type 0
+BodiesActLocally = ActsLocally BodyShapesFit body_reads body_writes body_meaning
 
--- words that agree in places that hold what a domain reads agree, after it, there and where it writes
-abbrev pub AgreementStays : Type 0
-AgreementStays =
-    (d : Node) (places : PlaceSet) (v w : Words) → AllShapesFit d → LieIn (node_reads d) places → SameWords places v w
-    → SameWords (in_either places (node_writes d)) (node_meaning d v) (node_meaning d w)
+abbrev pub BodyLeavesOthers : Type 0
+BodyLeavesOthers = LeavesOthers body_writes body_meaning
 
 -- words that agree in the entries of a covered domain agree there after it
 abbrev pub AgreementInEntries : Type 0
 AgreementInEntries =
     (d : Node) (v w : Words) → AllShapesFit d → IsCovered d → SameWords (in_entries (domain_of d).entries) v w
     → SameWords (in_entries (domain_of d).entries) (node_meaning d v) (node_meaning d w)
-
--- the same of a body, which has no entries of its own
-abbrev pub BodyIsLocal : Type 0
-BodyIsLocal =
-    (body : Body) (v w : Words) → BodyShapesFit body → SameWords (body_reads body) v w
-    → SameWords (body_writes body) (body_meaning body v) (body_meaning body w)
-
-abbrev pub BodyLeavesOthers : Type 0
-BodyLeavesOthers = (body : Body) (w : Words) (p : Place) → body_writes body p ≡ false → body_meaning body w p ≡ w p
-
-abbrev pub BodyKeepsAgreement : Type 0
-BodyKeepsAgreement =
-    (body : Body) (places : PlaceSet) (v w : Words) → BodyShapesFit body → LieIn (body_reads body) places → SameWords places v w
-    → SameWords (in_either places (body_writes body)) (body_meaning body v) (body_meaning body w)

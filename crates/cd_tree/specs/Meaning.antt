@@ -1,5 +1,5 @@
 -- What a program touches, what it computes where nothing fails, and how many blocks a run of it needs.
-use Rattle.std.specs.Prelude.{◌≡◌, ℕ, ◌+◌, ◌/◌, ◌&&◌, ◌||◌, not, true, false, List, [], ◌∷◌, if◌then◌else◌, max, sum_by, Option, Some, None, nat_lt, slice_get}
+use Rattle.std.specs.Prelude.{◌≡◌, ℕ, ◌+◌, ◌&&◌, ◌||◌, not, true, false, List, [], ◌∷◌, if◌then◌else◌, max, sum_by, Option, Some, None, nat_lt, slice_get}
 use Rattle.cd_base.specs.declared.place.Place.{Place}
 use Rattle.cd_base.specs.declared.place.Range.{Range}
 use Rattle.cd_base.specs.Words.{Words, PlaceSet, in_range, in_ranges, pattern_word}
@@ -7,6 +7,7 @@ use Rattle.cd_tree.specs.declared.domain.Entry.{Entry}
 use Rattle.cd_tree.specs.declared.domain.How.{How}
 use Rattle.cd_tree.specs.declared.domain.How.TheVariants.{Copy, Refer, Regen}
 use Rattle.cd_tree.specs.declared.document.Region.{Region}
+use Rattle.cd_tree.specs.Limits.{blocks_for}
 use Rattle.cd_tree.specs.Operations.{op_reads, op_writes, op_meaning, length_of}
 use Rattle.cd_tree.specs.Domains.{Node, Body, Members, node, stop, run, group, no_more, member, body_of, Throughout}
 
@@ -124,9 +125,9 @@ abbrev mutual
 abbrev pub uncovered : Node → PlaceSet
 uncovered (node id domain body) p = (body_reads body p || body_writes body p) && not (in_entries domain.entries p)
 
--- the blocks of 64 words that a copy of a range takes
+-- the blocks that a copy of a range takes
 abbrev pub blocks_of : Range → ℕ
-blocks_of r = (length_of r + 63) / 64
+blocks_of r = blocks_for (length_of r)
 
 -- a shared range may meet one block more, since it may begin inside one
 abbrev pub blocks_kept : How → Range → ℕ

@@ -1,5 +1,5 @@
 -- The meaning of the twelve operations, and which places each reads and writes.
-use Rattle.std.specs.Prelude.{◌≡◌, ℕ, zero, suc, ◌+◌, ◌*◌, ◌-◌, ◌^◌, ◌<◌, ◌⊎◌, max, true, false, ◌&&◌, nat_lt, nat_le, if◌then◌else◌, List, [], ◌∷◌, Some}
+use Rattle.std.specs.Prelude.{◌≡◌, ℕ, zero, suc, ◌+◌, ◌*◌, ◌-◌, ◌^◌, ◌<◌, ◌⊎◌, min, max, Bool, true, false, not, ◌&&◌, ◌||◌, ◌==◌, nat_lt, nat_le, if◌then◌else◌, List, [], ◌∷◌, Some}
 use Rattle.cd_base.specs.declared.place.Place.{Place}
 use Rattle.cd_base.specs.declared.place.Range.{Range}
 use Rattle.cd_base.specs.Words.{Words, word_at, word_of, in_range}
@@ -108,3 +108,46 @@ FitsShape (Stencil d a b c x) = (length_of x ≡ length_of d + 2) × AreApart d 
 FitsShape (Spmv d s c v x) =
     (length_of s ≡ length_of d + 1) × (length_of c ≡ length_of v)
     × AreApart d s × AreApart d c × AreApart d v × AreApart d x
+
+-- ---- the same as tests: a reader of texts asks them too
+
+abbrev pub is_same_range : Range → Range → Bool
+is_same_range r s = (r.region == s.region) && ((r.low == s.low) && (r.high == s.high))
+
+abbrev pub is_apart : Range → Range → Bool
+is_apart r s = not (r.region == s.region) || nat_le (min r.high s.high) (max r.low s.low)
+
+abbrev pub are_both_apart : Range → Range → Range → Bool
+are_both_apart d x z = is_apart d x && is_apart d z
+
+abbrev pub is_in_step : Range → Range → Bool
+is_in_step d x = (length_of x == length_of d) && (is_same_range x d || is_apart d x)
+
+-- one word that is no word of the source
+abbrev pub is_total : Range → Range → Bool
+is_total d x = (length_of d == 1) && is_apart d x
+
+abbrev pub is_dot : Range → Range → Range → Bool
+is_dot d x z = (length_of d == 1) && ((length_of x == length_of z) && are_both_apart d x z)
+
+abbrev pub is_stencil : Range → Range → Bool
+is_stencil d x = (length_of x == length_of d + 2) && is_apart d x
+
+abbrev pub is_spmv : Range → Range → Range → Range → Range → Bool
+is_spmv d s c v x =
+    ((length_of s == length_of d + 1) && (length_of c == length_of v)) && (are_both_apart d s c && are_both_apart d v x)
+
+-- whether an operation fits its shape
+abbrev pub fits_shape : Op → Bool
+fits_shape (Fill d k) = true
+fits_shape (Copy d x) = is_in_step d x
+fits_shape (Add d x z) = is_in_step d x && is_in_step d z
+fits_shape (Sub d x z) = is_in_step d x && is_in_step d z
+fits_shape (Mul d x z) = is_in_step d x && is_in_step d z
+fits_shape (Axpy d k x) = is_in_step d x
+fits_shape (Scan d x) = is_in_step d x
+fits_shape (Sum d x) = is_total d x
+fits_shape (Dot d x z) = is_dot d x z
+fits_shape (Max d x) = is_total d x
+fits_shape (Stencil d a b c x) = is_stencil d x
+fits_shape (Spmv d s c v x) = is_spmv d s c v x

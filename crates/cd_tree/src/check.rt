@@ -194,7 +194,7 @@ fn item_fits(domains: &[Domain], at: u32, item: &Item) -> bool
     }
 }
 
-// Whether a group has 1 to 256 members, which are children.
+// Whether a group has members, not too many, which are children.
 fn group_fits(domains: &[Domain], at: u32, ids: &[NodeId]) -> bool
     ensures { IsTrue result ↔ (0 < length ids.now) × (length ids.now ≤ members_limit) × NamesChildren domains.now at ids.now }
 {
@@ -237,7 +237,7 @@ fn domain_at(domains: &[Domain], id: NodeId) -> Option<&Domain>
     domains.get(id.0 as usize)
 }
 
-// Whether a walk from the root meets the numbers 0, 1, .. once each, and goes at most 16 levels deep.
+// Whether a walk from the root meets the numbers 0, 1, .. once each, and goes no deeper than the limit.
 fn are_in_order(domains: &[Domain]) -> bool
     requires some { 0 < length domains.now }
     requires view { IsWalkable domains.now }

@@ -1,3 +1,5 @@
+//! A document: its regions, its program and its fault script, as read and as accepted.
+
 use crate::{Kind, NodeId, Tree};
 use cd_base::{Items, Pattern, Place, Text};
 

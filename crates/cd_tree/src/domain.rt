@@ -1,3 +1,5 @@
+//! Domains: what one preserves, what its body has, how often it may try.
+
 use crate::{Kinds, Op};
 use cd_base::{Items, Pattern, Range, Text};
 

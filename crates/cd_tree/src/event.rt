@@ -1,3 +1,5 @@
+//! What the record of a run tells, why it ended badly, and how often each domain began.
+
 ghost use Rattle.std.specs.Prelude.{◌≡◌, ◌<◌, length, slice_get, Some};
 
 use crate::{Kinds, NodeId};

@@ -1,10 +1,14 @@
-ghost use Rattle.std.specs.Prelude.{◌≡◌, ◌↔◌, ◌<◌, ◌≤◌, ◌^◌, IsTrue, bit_or, bit_and};
+//! Kinds of faults and sets of them.
+
+ghost use Rattle.std.specs.Prelude.{◌≡◌, ◌↔◌, ◌<◌, ◌≤◌, ◌^◌, IsTrue, bit_or, bit_and, nat_lt};
+ghost use Rattle.cd_tree.specs.Limits.{kinds_limit};
 ghost use Rattle.cd_tree.specs.KindSets.{no_kinds, with_kind, has_kind, kinds_without, halting};
 
+use crate::limits::MOST_KINDS;
 use cd_base::Text;
 use std::marker::Model;
 
-/// A kind of fault, by its number in the order of declaration. A document has at most sixteen, numbered from 0.
+/// A kind of fault, by its number in the order of declaration, from 0. A number from `MOST_KINDS` on is no kind.
 #[derive(Debug, Clone, Copy, PartialEq, Eq)]
 pub struct Kind(pub u8);
 
@@ -15,8 +19,8 @@ pub struct KindName {
     pub halts: bool,
 }
 
-/// The kinds that halt, of a document's names in the order of declaration. A name from the seventeenth on is that of no
-/// kind. It takes no memory.
+/// The kinds that halt, of a document's names in the order of declaration. A name past the limit is that of no kind. It
+/// takes no memory.
 pub fn halting(names: &[KindName]) -> Kinds
     ensures { result ≡ halting names.now }
 {
@@ -27,6 +31,13 @@ pub fn halting(names: &[KindName]) -> Kinds
         }
     }
     kinds
+}
+
+// Whether a number is a kind's.
+fn is_kind(number: usize) -> bool
+    ensures { result ≡ nat_lt number kinds_limit }
+{
+    number < MOST_KINDS as usize
 }
 
 /// A set of kinds. Contracts see the number whose bit k says whether kind k is in it.
@@ -53,11 +64,11 @@ impl Kinds {
         Kinds { bits: 0 }
     }
 
-    /// This set with a kind. A number from 16 on is no kind and leaves the set as it is.
+    /// This set with a kind. A number that is no kind leaves the set as it is.
     pub fn with(self, kind: Kind) -> Kinds
         ensures { result ≡ with_kind self kind }
     {
-        if kind.0 < 16 {
+        if is_kind(kind.0 as usize) {
             Kinds {
                 bits: self.bits | (1 << kind.0),
             }
@@ -70,7 +81,7 @@ impl Kinds {
     fn with_number(self, number: usize) -> Kinds
         ensures { result ≡ with_kind self (record { 0 = number }) }
     {
-        if number < 16 {
+        if is_kind(number) {
             self.with(Kind(number as u8))
         } else {
             self
@@ -108,12 +119,12 @@ impl Kinds {
     pub fn has(self, kind: Kind) -> bool
         ensures { result ≡ has_kind self kind }
     {
-        kind.0 < 16 && (self.bits >> kind.0) % 2 == 1
+        is_kind(kind.0 as usize) && (self.bits >> kind.0) % 2 == 1
     }
 
     /// Whether the set has none but the first `count` kinds.
     pub(crate) fn are_below(self, count: usize) -> bool
-        requires { count ≤ 16 }
+        requires { count ≤ kinds_limit }
         ensures { IsTrue result ↔ (self < 2 ^ count) }
     {
         u32::from(self.bits) < 1 << count

@@ -5,7 +5,7 @@ ghost use Rattle.cd_tree.specs.Begins.{BeginsFollowFailures, BeginsNumberOn};
 ghost use Rattle.cd_tree.specs.CountLaws.{ReadsOwnCounts, ReadsPointsCounts, ReadsMembersCounts, EachIsInOrder, NumbersAreDistinct, CountsGrowByRepeats, CountsDoNotFall, MemberCountsDoNotFall, MembersStayBelow};
 ghost use Rattle.cd_tree.specs.FrontLaws.{DomainsTellTheirOwn, FrontsEndThere, ArrivalsAreFronts, FrontsLead, RecordsBegin, FirstPointIsThere, NextPointIsThere, NextTryIsThere, FrontsStand, FrontCountsLieBetween, MemberCountsLieBelow, PassedPointsAreQuiet, NoGroupLeakHalts, MembersLead, WaitingIsQuiet, PassesGroups, StopsAtGroups};
 ghost use Rattle.cd_tree.specs.LegalLaws.{LegalPieces, ReadingsSaveAsDeclared, RecordsSaveAsDeclared, LegalFrontsGoOn, LegalFrontsOfRecords, LegalFrontsAreFronts};
-ghost use Rattle.cd_tree.specs.Locality.{ColumnIsLocal, OperationIsLocal, OperationLeavesOthers, OperationKeepsAgreement, MeaningIsLocal, OthersStay, AgreementStays, AgreementInEntries, BodyIsLocal, BodyLeavesOthers, BodyKeepsAgreement, ShapesFitInPrograms, CoveredInPrograms, DisjointInPrograms};
+ghost use Rattle.cd_tree.specs.Locality.{ColumnIsLocal, OperationsActLocally, DomainsActLocally, AgreementInEntries, BodiesActLocally, ShapesFitInPrograms, CoveredInPrograms, DisjointInPrograms};
 ghost use Rattle.cd_tree.specs.FirstItems.{FirstThenRest, EnoughAreAll, OneItemMore, RunComesNext, GroupComesNext, OneItemLess, ItemsBehind, ItemsBefore, BehindIsRun, BehindIsGroup, BehindIsNothing, MembersAreNamed, LengthOfItems, LengthBehind, LengthOfFirst, FirstArePart, BehindArePart, FirstLeaveOthers, FirstKeepWords, FirstKeepAgreement, FirstAgreeInEntries, NextItemAgrees, MembersResume, MembersResumeIn, MembersTouchLess, MembersAreCovered, MembersShapesFit, MembersAreDisjoint};
 ghost use Rattle.cd_tree.specs.Absorbing.{AbsorbingIsMeaning, AbsorbingOne, MembersGiveTheirOwn, GroupLeavesOthers, GroupWritesByMembers, OrderDoesNotMatter, ApartIsUnseen};
 ghost use Rattle.cd_tree.specs.Laws.{RepeatsAreAtMostStrikes, StrikesAreAtMostEntries, RepeatsAreAtMostEntries, CountsAreAtMostOneMoreThanEntries, NestedViewFollows, NoLeakHalts, FoundAtRoots, FoundInPrograms, PathsDiffer, CoveredReach, ReachIsEntries, DisjointByDomains, CoveredByDomains, DetectableByPaths, NeedIsRoots, ParentsComeFirst, PathsGoDown, WordsStay};
@@ -108,25 +108,19 @@ pub fn words_stay()
 /// agrees on its sources agrees on its destination.
 pub fn an_operation_sees_its_sources_alone()
     ensures column { ColumnIsLocal }
-    ensures destination { OperationIsLocal }
-    ensures others { OperationLeavesOthers }
-    ensures agreement { OperationKeepsAgreement }
+    ensures acts { OperationsActLocally }
 {}
 
 /// What a domain computes depends on the words that it reads, and it changes no others than those that it writes: so a run
 /// that holds the words of a covered domain's entries, and no more, computes the same.
 pub fn a_domain_sees_what_it_reads_alone()
-    ensures written { MeaningIsLocal }
-    ensures others { OthersStay }
-    ensures agreement { AgreementStays }
+    ensures acts { DomainsActLocally }
     ensures entries { AgreementInEntries }
 {}
 
 /// The same of a body, as of the items of a domain that are still to come.
 pub fn a_body_sees_what_it_reads_alone()
-    ensures written { BodyIsLocal }
-    ensures others { BodyLeavesOthers }
-    ensures agreement { BodyKeepsAgreement }
+    ensures { BodiesActLocally }
 {}
 
 /// Each domain of a program meets what the laws on what domains see ask of it: its shapes are right, and it is covered and

@@ -1,5 +1,13 @@
 //! Programs as trees of containment domains, fault scripts, events and refusals; and, in `specs/`, the meaning of all of
 //! them: what operations and domains compute, what the one-thread reading of a program and its script gives.
+//! `specs/Lib.antt` says in which order to read.
+//!
+//! ```
+//! let tree = Tree::checked(kinds, domains).ok_or("no program")?;
+//! // a root `top` over the two domains `left` and `right`, in preorder
+//! assert_eq!(rt; find(&tree, "top/left"), Some(NodeId(1)));
+//! assert_eq!(rt; path_text(alloc, &tree, NodeId(2))?.as_str(), "top/right");
+//! ```
 #![tactic(auto)]
 
 mod check;

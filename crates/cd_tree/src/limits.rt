@@ -1,4 +1,5 @@
-//! The limits of texts and of what they describe, as `specs/Limits.antt` has them: of each the most that is taken.
+//! The limits of texts and of what they describe, as `specs/Limits.antt` has them: of each the most that is taken; and the
+//! size of a block.
 
 /// The bytes of a text.
 pub const MOST_TEXT: u32 = 1_048_576;
@@ -47,3 +48,6 @@ pub const MOST_MEMBERS: u32 = 256;
 
 /// The blocks that a program needs.
 pub const MOST_NEED: u64 = 65_536;
+
+/// The words of a block.
+pub const BLOCK_WORDS: u32 = 64;

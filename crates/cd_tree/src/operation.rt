@@ -1,5 +1,7 @@
+//! The operations, their ranges, and whether these have the shape that they must have.
+
 ghost use Rattle.std.specs.Prelude.{◌≡◌, ◌↔◌, ◌<◌, ◌^◌, ◌∷◌, slice_get, IsTrue, All};
-ghost use Rattle.cd_tree.specs.Operations.{op_reads, op_writes, length_of, IsFull, AreApart, IsInStep, FitsShape};
+ghost use Rattle.cd_tree.specs.Operations.{op_reads, op_writes, length_of, IsFull, FitsShape, is_same_range, is_apart, are_both_apart, is_in_step, is_total, is_dot, is_stencil, is_spmv, fits_shape};
 
 use cd_base::Range;
 
@@ -100,7 +102,15 @@ fn are_full(ranges: &[Range]) -> bool
 
 /// Whether an operation has the lengths and ranges that it must have. It takes no memory.
 pub fn fits(op: &Op) -> bool
-    ensures { IsTrue result ↔ FitsShape op.now }
+    ensures test { result ≡ fits_shape op.now }
+    ensures shape { IsTrue result ↔ FitsShape op.now }
+{
+    has_shape(op)
+}
+
+// The test of the shape.
+fn has_shape(op: &Op) -> bool
+    ensures { result ≡ fits_shape op.now }
 {
     match *op {
         Op::Fill(..) => true,
@@ -108,34 +118,63 @@ pub fn fits(op: &Op) -> bool
         Op::Add(d, x, z) | Op::Sub(d, x, z) | Op::Mul(d, x, z) => {
             is_in_step(d, x) && is_in_step(d, z)
         }
-        Op::Sum(d, x) | Op::Max(d, x) => words_in(d) == 1 && are_apart(d, x),
-        Op::Dot(d, x, z) => {
-            words_in(d) == 1 && words_in(x) == words_in(z) && are_apart(d, x) && are_apart(d, z)
-        }
-        Op::Stencil(d, _, _, _, x) => words_in(x) == words_in(d) + 2 && are_apart(d, x),
-        Op::Spmv(d, s, c, v, x) => {
-            words_in(s) == words_in(d) + 1
-                && words_in(c) == words_in(v)
-                && are_apart(d, s)
-                && are_apart(d, c)
-                && are_apart(d, v)
-                && are_apart(d, x)
-        }
+        Op::Sum(d, x) | Op::Max(d, x) => is_total(d, x),
+        Op::Dot(d, x, z) => is_dot(d, x, z),
+        Op::Stencil(d, _, _, _, x) => is_stencil(d, x),
+        Op::Spmv(d, s, c, v, x) => is_spmv(d, s, c, v, x),
     }
 }
 
 // Whether a source has the destination's length, and is the destination itself or apart from it.
 fn is_in_step(d: Range, x: Range) -> bool
-    ensures { IsTrue result ↔ IsInStep d x }
+    ensures { result ≡ is_in_step d x }
 {
-    words_in(x) == words_in(d) && (x == d || are_apart(d, x))
+    words_in(x) == words_in(d) && (is_same_range(x, d) || is_apart(d, x))
+}
+
+// Whether the destination is one word, apart from the source.
+fn is_total(d: Range, x: Range) -> bool
+    ensures { result ≡ is_total d x }
+{
+    words_in(d) == 1 && is_apart(d, x)
+}
+
+fn is_dot(d: Range, x: Range, z: Range) -> bool
+    ensures { result ≡ is_dot d x z }
+{
+    words_in(d) == 1 && (words_in(x) == words_in(z) && are_both_apart(d, x, z))
+}
+
+fn is_stencil(d: Range, x: Range) -> bool
+    ensures { result ≡ is_stencil d x }
+{
+    words_in(x) == words_in(d) + 2 && is_apart(d, x)
+}
+
+fn is_spmv(d: Range, s: Range, c: Range, v: Range, x: Range) -> bool
+    ensures { result ≡ is_spmv d s c v x }
+{
+    let lengths = words_in(s) == words_in(d) + 1 && words_in(c) == words_in(v);
+    lengths && (are_both_apart(d, s, c) && are_both_apart(d, v, x))
+}
+
+fn are_both_apart(d: Range, x: Range, z: Range) -> bool
+    ensures { result ≡ are_both_apart d x z }
+{
+    is_apart(d, x) && is_apart(d, z)
 }
 
 // Whether two ranges have no common place.
-fn are_apart(r: Range, s: Range) -> bool
-    ensures { IsTrue result ↔ AreApart r s }
+fn is_apart(r: Range, s: Range) -> bool
+    ensures { result ≡ is_apart r s }
 {
     r.region != s.region || r.high.min(s.high) <= r.low.max(s.low)
+}
+
+fn is_same_range(r: Range, s: Range) -> bool
+    ensures { result ≡ is_same_range r s }
+{
+    r.region == s.region && (r.low == s.low && r.high == s.high)
 }
 
 // The number of words of a range.

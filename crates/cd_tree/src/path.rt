@@ -1,3 +1,5 @@
+//! Paths of names: from a domain to its path, and from a path to its domain.
+
 ghost use Rattle.std.specs.Prelude.{◌≡◌, ◌≢◌, ◌↔◌, ◌<◌, ◌++◌, ◌∷◌, List, ℕ, length, slice_get, IsTrue, IfOk, OnOk, MatchOption, string_bytes};
 ghost use Rattle.cd_tree.specs.TreeModel.{IsTree};
 ghost use Rattle.cd_tree.specs.Paths.{path_text_of, IsNoPath, IsFirstAt};

@@ -1,3 +1,5 @@
+//! Why a document is refused.
+
 use crate::NodeId;
 use cd_base::Place;
 

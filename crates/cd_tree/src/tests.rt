@@ -1,3 +1,6 @@
+//! Tests of this crate: lists that are a program's, and lists that in one point are not.
+
+use crate::limits::{MOST_DEPTH, MOST_RETRY};
 use crate::{
     Domain, Entry, How, Item, Kind, KindName, Kinds, NodeId, Op, Tree, find, fits, is_full,
     path_text,
@@ -27,7 +30,7 @@ fn top(members: &[NodeId]) -> Sketch<'_> {
     Sketch {
         name: "top",
         parent: None,
-        retry: 100,
+        retry: MOST_RETRY,
         entry: part(0, 0, 8),
         op: Op::Fill(part(0, 0, 8), 1),
         members: Some(members),
@@ -155,7 +158,7 @@ fn what_is_wrong_in_one_point_is_no_tree(rt: HostRuntime) -> Result<(), Fail> {
             [
                 top(&both),
                 Sketch {
-                    retry: 101,
+                    retry: MOST_RETRY + 1,
                     ..leaf("left")
                 },
                 leaf("right"),
@@ -234,9 +237,9 @@ fn chain(rt: &impl Abort, alloc: Global, levels: u32) -> Result<Option<Tree>, Fa
 }
 
 #[test]
-fn no_tree_has_a_seventeenth_level(rt: HostRuntime) -> Result<(), Fail> {
-    assert!(rt; chain(&rt, rt.alloc(), 16)?.is_some());
-    assert!(rt; chain(&rt, rt.alloc(), 17)?.is_none());
+fn no_tree_is_deeper_than_the_limit(rt: HostRuntime) -> Result<(), Fail> {
+    assert!(rt; chain(&rt, rt.alloc(), MOST_DEPTH)?.is_some());
+    assert!(rt; chain(&rt, rt.alloc(), MOST_DEPTH + 1)?.is_none());
     Ok(())
 }
 

@@ -1,3 +1,5 @@
+//! Programs: lists of domains that are a tree's.
+
 ghost use Rattle.std.specs.Prelude.{◌≡◌, ◌<◌, ◌^◌, length, slice_get, Some, MatchOption};
 ghost use Rattle.cd_tree.specs.Groups.{IsPlaceOf};
 ghost use Rattle.cd_tree.specs.Slices.{slice_end};
@@ -71,7 +73,7 @@ impl Tree {
     }
 
     /// The number behind those of a domain and of all below it, which are the numbers from its own on. It takes no memory,
-    /// and goes down from last child to last child, past the operations that stand behind each: at most 16 levels.
+    /// and goes down from last child to last child, past the operations that stand behind each: at most `MOST_DEPTH` levels.
     pub fn end_of(&self, id: NodeId) -> u32
         requires { id.0 < length self.now.domains }
         ensures { result ≡ slice_end self.now.domains id }

@@ -1,6 +1,5 @@
 pub mod WorkedKeeps
 pub mod WorkedTries
-pub mod PlaceTests
 pub mod Putting
 pub mod PieceWords
 pub mod Steps
@@ -19,3 +18,4 @@ pub mod Lapses
 pub mod KeepsLegal
 pub mod KeepsHeld
 pub mod KeepsGiven
+pub mod Sample

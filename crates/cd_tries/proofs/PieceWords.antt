@@ -1,7 +1,7 @@
 -- The words of pieces: how many each has, and where they stand in the text of all.
 use Rattle.std.proofs.Common.{◌≡◌, ℕ, zero, suc, ◌+◌, ◌-◌, ◌*◌, ◌<◌, ◌≤◌, min, max, true, nat_le, List, [], ◌∷◌, ◌++◌, length, get_or, Option, Some, None, IsSomeAnd, unwrap_or, arith, refl, ap, subst, sym, ◌∙◌, length-append}
 use Rattle.std.specs.Prelude.{slice_get, cond, ◌==◌}
-use Rattle.std.proofs.lemmas.Bool.{eq-eqb, and_from}
+use Rattle.std.proofs.lemmas.Bool.{and_from, cond-true, eq-eqb}
 use Rattle.std.proofs.lemmas.Bool.Decides.{nat_tests}
 use Rattle.std.proofs.lemmas.Option.{slice_get_within, slice_get-get_or}
 use Rattle.cd_base.specs.declared.place.Range.{Range}
@@ -13,9 +13,9 @@ use Rattle.cd_keep.specs.PassModel.{IsPiece, same_id}
 use Rattle.cd_tries.specs.declared.keep.Pieces.{Pieces}
 use Rattle.cd_tries.specs.Keeping.{Known, text, piece_words, Cover, EachMeets, times_in}
 use Rattle.cd_tries.specs.Refilling.{words_at, part_of_piece}
-use Rattle.cd_tries.proofs.PlaceTests.{Inside, inside_from, chosen}
+use Rattle.cd_base.proofs.PlaceLemmas.{Inside, inside_from}
 
-some_is : {A : Type 0} (x y : A) → Some x ≡ Some y → x ≡ y
+pub some_is : {A : Type 0} (x y : A) → Some x ≡ Some y → x ≡ y
 some_is {A} x y e = ap (λ (o : Option A). unwrap_or o x) e
 
 -- the words of one id
@@ -125,9 +125,9 @@ nth_of known pieces r k id full covers meets at =
           let over : nat_le begin p.index ≡ true = (let l : begin ≤ p.index = omega (arith, low) in grind (arith, nat_tests)) in
           let short : p.index - (begin + 64 * k) < length (words_for known id) = omega (arith, end, some, few, low, high, within) in
           let place : p.index - begin ≡ 64 * k + (p.index - (begin + 64 * k)) = omega (arith, low) in
-          chosen (nat_le (begin + 64 * k) p.index) (slice_get (words_for known id) (p.index - (begin + 64 * k))) None from
+          cond-true (nat_le (begin + 64 * k) p.index) (slice_get (words_for known id) (p.index - (begin + 64 * k))) None from
           ∙ sym (word_of_piece known pieces.ids k id (p.index - begin) (p.index - (begin + 64 * k)) covers.cut.whole at short place)
-          ∙ sym (chosen (nat_le begin p.index) (slice_get (text known pieces.ids) (p.index - begin)) None over);
+          ∙ sym (cond-true (nat_le begin p.index) (slice_get (text known pieces.ids) (p.index - begin)) None over);
     }
 
 -- an id that stands among these is counted
@@ -139,7 +139,7 @@ is_counted (one ∷ ids) zero id at =
     let test : same_id one one ≡ true = and_from (one.block == one.block) (one.serial == one.serial) (eq-eqb one.block one.block refl) (eq-eqb one.serial one.serial refl) in
     let counted : ℕ = 1 in
     let none : ℕ = 0 in
-    let first : cond (same_id one one) counted none ≡ counted = chosen (same_id one one) counted none test in
+    let first : cond (same_id one one) counted none ≡ counted = cond-true (same_id one one) counted none test in
     subst P same (let some : 0 < cond (same_id one one) counted none + times_in one ids = omega (arith, first) in some)
 is_counted (one ∷ ids) (suc k) id at = omega (arith, is_counted ids k id at)
 

@@ -1,7 +1,7 @@
 -- From point to point: what a machine that can run asks for, and what it keeps.
 use Rattle.std.proofs.Common.{◌≡◌, ℕ, suc, ◌+◌, ◌-◌, ◌<◌, Bool, true, false, ◌&&◌, ◌==◌, List, [], ◌∷◌, get_or, Option, Some, IsSome, All, refl, ap, subst, sym, ◌∙◌, add-one, bit_xor, length}
 use Rattle.std.proofs.lemmas.List.Elements.{All-filter, filter_passes}
-use Rattle.std.proofs.lemmas.Bool.{and_parts, eqb-true}
+use Rattle.std.proofs.lemmas.Bool.{and_parts, cond-false, cond-true, eqb-true}
 use Rattle.cd_base.specs.declared.place.Place.{Place}
 use Rattle.cd_base.specs.Words.{Words, in_range, word_at, same_place, struck_word}
 use Rattle.cd_tree.specs.declared.domain.NodeId.{NodeId}
@@ -19,7 +19,7 @@ use Rattle.cd_kernel.specs.Computing.{computed}
 use Rattle.cd_tries.specs.declared.points.Arrival.TheVariants as at
 use Rattle.cd_tries.specs.Fitting.{CanRun, ItemStays, StrikesWithin}
 use Rattle.cd_tries.specs.Running.{is_quiet, where_quiet, run_to, run_ends}
-use Rattle.cd_tries.proofs.PlaceTests.{by_test, chosen, other}
+use Rattle.cd_base.proofs.BoolLemmas.{by_test}
 
 -- a strike leaves no place without a word
 pub struck-known : (faults : List Fault) (w : Words) (p : Place) → IsSome (w p) → IsSome (words_struck faults w p)
@@ -28,16 +28,16 @@ struck-known (fault ∷ faults) w p known =
     struck-known faults (struck_word w fault.place fault.mask) p
     (let Q : Option ℕ → Type 0 = λ o. IsSome o in
     by_test (same_place fault.place p)
-    (λ t. subst Q (sym (chosen (same_place fault.place p) (Some (bit_xor (word_at w fault.place) fault.mask)) (w p) t)) refl)
-    (λ f. subst Q (sym (other (same_place fault.place p) (Some (bit_xor (word_at w fault.place) fault.mask)) (w p) f)) known))
+    (λ t. subst Q (sym (cond-true (same_place fault.place p) (Some (bit_xor (word_at w fault.place) fault.mask)) (w p) t)) refl)
+    (λ f. subst Q (sym (cond-false (same_place fault.place p) (Some (bit_xor (word_at w fault.place) fault.mask)) (w p) f)) known))
 
 -- nor does an operation
 pub meant-known : (op : Op) (w : Words) (p : Place) → IsSome (w p) → IsSome (op_meaning op w p)
 meant-known op w p known =
     let Q : Option ℕ → Type 0 = λ o. IsSome o in
     by_test (in_range (op_writes op) p)
-    (λ t. subst Q (sym (chosen (in_range (op_writes op) p) (Some (column op w (p.index - (op_writes op).low))) (w p) t)) refl)
-    (λ f. subst Q (sym (other (in_range (op_writes op) p) (Some (column op w (p.index - (op_writes op).low))) (w p) f)) known)
+    (λ t. subst Q (sym (cond-true (in_range (op_writes op) p) (Some (column op w (p.index - (op_writes op).low))) (w p) t)) refl)
+    (λ f. subst Q (sym (cond-false (in_range (op_writes op) p) (Some (column op w (p.index - (op_writes op).low))) (w p) f)) known)
 
 -- the faults that strike at a point strike in the entries, and have kinds
 pub hits_within : (id : NodeId) (entries : List Entry) (m : FieldModel) (point : ℕ) → m.node ≡ id → StrikesWithin id entries m.script

@@ -2,7 +2,7 @@
 use Rattle.std.proofs.Common.{◌≡◌, ℕ, ◌+◌, ◌-◌, ◌*◌, ◌<◌, ◌≤◌, min, max, Bool, true, false, nat_le, List, length, get_or, drop, get_or-take, get_or-drop, ◌||◌, if◌then◌else◌, Some, None, arith, refl, ap, ap₂, sym, ◌∙◌, inl, inr}
 use Rattle.std.specs.Prelude.{slice_get, slice_range}
 use Rattle.std.proofs.Math.Path.{fun_ext}
-use Rattle.std.proofs.lemmas.Bool.{cases_lt}
+use Rattle.std.proofs.lemmas.Bool.{cases_lt, cond-false, cond-true, false_from_ne_true, or_left, or_right}
 use Rattle.std.proofs.lemmas.Bool.Decides.{nat_tests}
 use Rattle.std.proofs.lemmas.Option.{slice_get-get_or}
 use Rattle.cd_base.specs.declared.place.Place.{Place}
@@ -12,7 +12,8 @@ use Rattle.cd_tree.specs.Locality.{SameWords}
 use Rattle.cd_field.specs.FieldModel.{FieldModel, refilled_word, refilled_run}
 use Rattle.cd_tries.specs.declared.keep.Pieces.{Pieces}
 use Rattle.cd_tries.specs.Refilling.{put_words, part_of_piece, words_at}
-use Rattle.cd_tries.proofs.PlaceTests.{Inside, inside_from, inside_to, same_from, same_to, by_test, not_true, chosen, other, or_left, or_right}
+use Rattle.cd_base.proofs.BoolLemmas.{by_test}
+use Rattle.cd_base.proofs.PlaceLemmas.{place-same, Inside, inside_from, inside_to, same_from, same_to}
 
 -- what is chosen on a range
 abbrev pub on : {X : Type 0} → (Place → Bool) → (Place → X) → (Place → X) → Place → X
@@ -24,7 +25,7 @@ on_same {X} a b v w same = fun_ext (λ p. ap (λ (t : Bool). if t then v p else 
 
 -- nothing is chosen where the test is never true
 on_none : {X : Type 0} (a : Place → Bool) (v w : Place → X) → ((p : Place) → a p ≡ false) → on a v w ≡ w
-on_none {X} a v w none = fun_ext (λ p. other (a p) (v p) (w p) (none p))
+on_none {X} a v w none = fun_ext (λ p. cond-false (a p) (v p) (w p) (none p))
 
 -- what is chosen in two steps is chosen at once
 on_twice : {X : Type 0} (whole first rest : Place → Bool) (v w : Place → X)
@@ -42,14 +43,14 @@ pub put_same : (v w : Words) (r : Range) (m : FieldModel) → SameWords (in_rang
 put_same v w r m same =
     ap (λ (words : Words). record m { words = words; lost = λ p. if in_range r p then false else m.lost p })
     (fun_ext (λ p. by_test (in_range r p)
-    (λ t. chosen (in_range r p) (v p) (m.words p) t ∙ same p t ∙ sym (chosen (in_range r p) (w p) (m.words p) t))
-    (λ f. other (in_range r p) (v p) (m.words p) f ∙ sym (other (in_range r p) (w p) (m.words p) f))))
+    (λ t. cond-true (in_range r p) (v p) (m.words p) t ∙ same p t ∙ sym (cond-true (in_range r p) (w p) (m.words p) t))
+    (λ f. cond-false (in_range r p) (v p) (m.words p) f ∙ sym (cond-false (in_range r p) (w p) (m.words p) f))))
 
 -- no word is put back into a range without a place
 pub put_none : (w : Words) (r : Range) (m : FieldModel) → r.high ≤ r.low → put_words w r m ≡ m
 put_none w r m empty =
     let none : (p : Place) → in_range r p ≡ false =
-    λ p. not_true (in_range r p) (λ t. let i : Inside r p = inside_from r p t in
+    λ p. false_from_ne_true (in_range r p) (λ t. let i : Inside r p = inside_from r p t in
     let low : r.low ≤ p.index = i.low in let high : p.index < r.high = i.high in omega arith) in
     ap₂ (λ (words : Words) (lost : PlaceSet). record m { words = words; lost = lost })
     (on_none (in_range r) w m.words none) (on_none (in_range r) (λ p. false) m.lost none)
@@ -145,18 +146,18 @@ put_one w r at word m is =
     (λ t. let e : (q.region ≡ p.region) × (q.index ≡ p.index) = same_from q p t in
     let i : at ≡ p.index = e.1 in
     t ∙ sym (inside_to one p (record { region = e.0; low = omega arith; high = omega arith })))
-    (λ f. f ∙ sym (not_true (in_range one p) (λ t. let i : Inside one p = inside_from one p t in
+    (λ f. f ∙ sym (false_from_ne_true (in_range one p) (λ t. let i : Inside one p = inside_from one p t in
     let low : at ≤ p.index = i.low in let high : p.index < at + 1 = i.high in
     let e : at ≡ p.index = omega arith in
     let there : same_place q p ≡ true = same_to q p i.region e in cc))) in
     ap₂ (λ (words : Words) (lost : PlaceSet). record m { words = words; lost = lost })
     (fun_ext (λ p. by_test (same_place q p)
     (λ t. let e : (q.region ≡ p.region) × (q.index ≡ p.index) = same_from q p t in
-    let at_p : q ≡ p = ap₂ (λ (r i : ℕ). let v : Place = record { region = r; index = i } in v) e.0 e.1 in
-    chosen (same_place q p) (Some word) (m.words p) t
+    let at_p : q ≡ p = place-same q p e.0 e.1 in
+    cond-true (same_place q p) (Some word) (m.words p) t
     ∙ sym is ∙ ap w at_p
-    ∙ sym (chosen (in_range one p) (w p) (m.words p) (sym (same p) ∙ t)))
-    (λ f. other (same_place q p) (Some word) (m.words p) f ∙ sym (other (in_range one p) (w p) (m.words p) (sym (same p) ∙ f)))))
+    ∙ sym (cond-true (in_range one p) (w p) (m.words p) (sym (same p) ∙ t)))
+    (λ f. cond-false (same_place q p) (Some word) (m.words p) f ∙ sym (cond-false (in_range one p) (w p) (m.words p) (sym (same p) ∙ f)))))
     (on_same (same_place q) (in_range one) (λ p. false) m.lost same)
 
 -- a run of words put back, cut out of a list that stands from an index on
@@ -174,13 +175,13 @@ run_put m r start words low order high =
     let short : p.index - r.low < (r.high - start) - (r.low - start) = omega arith in
     let place : (r.low - start) + (p.index - r.low) ≡ p.index - start = omega arith in
     let inside : p.index - start < length words = omega arith in
-    chosen (in_range r p) (Some (get_or cut (p.index - r.low) 0)) (m.words p) t
+    cond-true (in_range r p) (Some (get_or cut (p.index - r.low) 0)) (m.words p) t
     ∙ ap (λ (n : ℕ). Some n)
     (get_or-take ((r.high - start) - (r.low - start)) (drop (r.low - start) words) (p.index - r.low) 0 short
     ∙ get_or-drop (r.low - start) words (p.index - r.low) 0
     ∙ ap (λ (n : ℕ). get_or words n 0) place)
     ∙ sym (slice_get-get_or words (p.index - start) 0 inside)
-    ∙ sym (chosen (nat_le start p.index) (slice_get words (p.index - start)) None from_start)
-    ∙ sym (chosen (in_range r p) (words_at start words p) (m.words p) t))
-    (λ f. other (in_range r p) (Some (get_or cut (p.index - r.low) 0)) (m.words p) f
-    ∙ sym (other (in_range r p) (words_at start words p) (m.words p) f))))
+    ∙ sym (cond-true (nat_le start p.index) (slice_get words (p.index - start)) None from_start)
+    ∙ sym (cond-true (in_range r p) (words_at start words p) (m.words p) t))
+    (λ f. cond-false (in_range r p) (Some (get_or cut (p.index - r.low) 0)) (m.words p) f
+    ∙ sym (cond-false (in_range r p) (words_at start words p) (m.words p) f))))

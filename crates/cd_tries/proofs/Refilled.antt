@@ -3,6 +3,7 @@ use Rattle.std.proofs.Common.{◌≡◌, ℕ, suc, ◌+◌, ◌-◌, ◌<◌, �
 use Rattle.std.specs.Prelude.{slice_get}
 use Rattle.std.proofs.lemmas.Option.{slice_get-get_or}
 use Rattle.std.proofs.lemmas.Bool.Decides.{nat_tests}
+use Rattle.std.proofs.lemmas.Bool.{cond-false, cond-true, false_from_ne_true, or_left, or_right}
 use Rattle.cd_base.specs.declared.place.Place.{Place}
 use Rattle.cd_base.specs.declared.place.Range.{Range}
 use Rattle.cd_base.specs.Words.{Words, in_range}
@@ -21,7 +22,8 @@ use Rattle.cd_tries.specs.declared.keep.Pieces.{Pieces}
 use Rattle.cd_tries.specs.Keeping.{Known, text, piece_words, pattern_words, keep_words, Cover, KeepFits, KeepsFit}
 use Rattle.cd_tries.specs.Refilling.{put_back, refilled_from, refilled_all}
 use Rattle.cd_tries.specs.TryLaws.{EachGives, PuttingBack}
-use Rattle.cd_tries.proofs.PlaceTests.{Inside, inside_from, by_test, chosen, other, or_left, or_right, not_true}
+use Rattle.cd_base.proofs.BoolLemmas.{by_test}
+use Rattle.cd_base.proofs.PlaceLemmas.{Inside, inside_from}
 
 -- the machine after one entry is put back and told
 abbrev next : Known → ℕ → Entry → Keep → FieldModel → FieldModel
@@ -40,7 +42,7 @@ pieces_known known pieces r p covers h =
     let over : nat_le pieces.begin p.index ≡ true = (let l : pieces.begin ≤ p.index = omega arith in grind (arith, nat_tests)) in
     let short : p.index - pieces.begin < length (text known pieces.ids) = omega arith in
     let Q : Option ℕ → Type 0 = λ o. IsSome o in
-    subst Q (sym (chosen (nat_le pieces.begin p.index) (slice_get (text known pieces.ids) (p.index - pieces.begin)) None over
+    subst Q (sym (cond-true (nat_le pieces.begin p.index) (slice_get (text known pieces.ids) (p.index - pieces.begin)) None over
     ∙ slice_get-get_or (text known pieces.ids) (p.index - pieces.begin) 0 short)) refl
 
 pattern_known : (how : How) (entry : Entry) (p : Place) → OfPattern (λ r pattern. Unit {0}) entry how → IsSome (pattern_words how p)
@@ -58,13 +60,13 @@ keep_known known entry ByPattern p fits h = pattern_known entry.how entry p fits
 put_inside : (known : Known) (at : ℕ) (entry : Entry) (keep : Keep) (m : FieldModel) (p : Place) → in_range entry.range p ≡ true
     → ((next known at entry keep m).words p ≡ keep_words known entry.how keep p) × ((next known at entry keep m).lost p ≡ false)
 put_inside known at entry keep m p t =
-    (chosen (in_range entry.range p) (keep_words known entry.how keep p) (m.words p) t, chosen (in_range entry.range p) false (m.lost p) t)
+    (cond-true (in_range entry.range p) (keep_words known entry.how keep p) (m.words p) t, cond-true (in_range entry.range p) false (m.lost p) t)
 
 -- a place outside of it is as it was
 put_outside : (known : Known) (at : ℕ) (entry : Entry) (keep : Keep) (m : FieldModel) (p : Place) → in_range entry.range p ≡ false
     → ((next known at entry keep m).words p ≡ m.words p) × ((next known at entry keep m).lost p ≡ m.lost p)
 put_outside known at entry keep m p f =
-    (other (in_range entry.range p) (keep_words known entry.how keep p) (m.words p) f, other (in_range entry.range p) false (m.lost p) f)
+    (cond-false (in_range entry.range p) (keep_words known entry.how keep p) (m.words p) f, cond-false (in_range entry.range p) false (m.lost p) f)
 
 -- what is present stays so
 put_present : (known : Known) (at : ℕ) (entry : Entry) (keep : Keep) (m : FieldModel) (p : Place) → KeepFits known entry keep
@@ -101,9 +103,9 @@ refilled_outside known at [] keeps m p out = (refl, refl)
 refilled_outside known at (entry ∷ entries) [] m p out = (refl, refl)
 refilled_outside known at (entry ∷ entries) (keep ∷ keeps) m p out =
     let first : in_range entry.range p ≡ false =
-    not_true (in_range entry.range p) (λ t. let in_one : in_entries (entry ∷ entries) p ≡ true = or_left (in_range entry.range p) (in_entries entries p) t in cc) in
+    false_from_ne_true (in_range entry.range p) (λ t. let in_one : in_entries (entry ∷ entries) p ≡ true = or_left (in_range entry.range p) (in_entries entries p) t in cc) in
     let others : in_entries entries p ≡ false =
-    not_true (in_entries entries p) (λ t. let in_one : in_entries (entry ∷ entries) p ≡ true = or_right (in_range entry.range p) (in_entries entries p) t in cc) in
+    false_from_ne_true (in_entries entries p) (λ t. let in_one : in_entries (entry ∷ entries) p ≡ true = or_right (in_range entry.range p) (in_entries entries p) t in cc) in
     let one : ((next known at entry keep m).words p ≡ m.words p) × ((next known at entry keep m).lost p ≡ m.lost p) =
     put_outside known at entry keep m p first in
     let rest : ((refilled_from known (suc at) entries keeps (next known at entry keep m)).words p ≡ (next known at entry keep m).words p)

@@ -1,6 +1,7 @@
 -- What the tries of a domain keep of a machine: its domain, script and carved ranges, the words and presence of its entries,
 -- and all that lies outside of them.
-use Rattle.std.proofs.Common.{◌≡◌, ℕ, zero, suc, ◌-◌, ◌<◌, Bool, true, false, ◌==◌, bit_and, List, [], ◌∷◌, drop, Some, All, arith, refl, ap, ap₂, subst, sym, ◌∙◌}
+use Rattle.std.proofs.Common.{◌≡◌, ℕ, zero, suc, ◌-◌, ◌<◌, Bool, true, false, ◌==◌, bit_and, List, [], ◌∷◌, drop, Some, All, arith, refl, ap, subst, sym, ◌∙◌}
+use Rattle.std.proofs.lemmas.Bool.{cond-false, false_from_ne_true, or_left}
 use Rattle.cd_base.specs.declared.place.Place.{Place}
 use Rattle.cd_base.specs.Words.{Words, in_range, in_ranges, same_place, struck_word}
 use Rattle.cd_tree.specs.declared.domain.NodeId.{NodeId}
@@ -27,7 +28,7 @@ use Rattle.cd_tries.specs.Keeping.{KeepsFit}
 use Rattle.cd_tries.specs.Refilling.{refilled_all}
 use Rattle.cd_tries.specs.Running.{Run, Trial, Means, Tried, is_quiet, where_quiet, run_to, run_ends, halted, judged_at, tried_again, tries_from, comes_to, unless_failed, next_begin}
 use Rattle.cd_tries.specs.TryLaws.{PutBack, Stays, PointsKeep, TriesKeep, TryingAgainKeeps}
-use Rattle.cd_tries.proofs.PlaceTests.{same_from, not_true, other, or_left}
+use Rattle.cd_base.proofs.PlaceLemmas.{same_from, place-same}
 use Rattle.cd_tries.proofs.Pointing.{hits_within, struck-known, meant-known}
 use Rattle.cd_tries.proofs.Refilled.{putting_back}
 
@@ -88,10 +89,10 @@ struck-outside entries [] w p out within = refl
 struck-outside entries (fault ∷ faults) w p out within =
     struck-outside entries faults (struck_word w fault.place fault.mask) p out
     (λ k d short. within (suc k) d (omega (arith, short)))
-    ∙ other (same_place fault.place p) _ (w p) (not_true _ (λ t.
+    ∙ cond-false (same_place fault.place p) _ (w p) (false_from_ne_true _ (λ t.
     let same : (fault.place.region ≡ p.region) × (fault.place.index ≡ p.index) = same_from fault.place p t in
     let inside : in_entries entries fault.place ≡ true = (within 0 fault (omega arith)).0 in
-    let one : fault.place ≡ p = ap₂ (λ (r i : ℕ). let v : Place = record { region = r; index = i } in v) same.0 same.1 in
+    let one : fault.place ≡ p = place-same fault.place p same.0 same.1 in
     let there : in_entries entries p ≡ true = subst (λ (q : Place). in_entries entries q ≡ true) one inside in
     cc))
 
@@ -99,7 +100,7 @@ struck-outside entries (fault ∷ faults) w p out within =
 meant-outside : (entries : List Entry) (op : Op) (w : Words) (p : Place) → in_entries entries p ≡ false
     → LieIn (in_ranges (op_writes op ∷ op_reads op)) (in_entries entries) → op_meaning op w p ≡ w p
 meant-outside entries op w p out lies =
-    other (in_range (op_writes op) p) (Some (column op w (p.index - (op_writes op).low))) (w p) (not_true _ (λ t.
+    cond-false (in_range (op_writes op) p) (Some (column op w (p.index - (op_writes op).low))) (w p) (false_from_ne_true _ (λ t.
     let there : in_entries entries p ≡ true = lies p (or_left (in_range (op_writes op) p) (in_ranges (op_reads op) p) t) in cc))
 
 stays_reached : (id : NodeId) (domain : Domain) (m : FieldModel) (point : ℕ) → CanRun id domain m → Stays id domain m (reached_point m point)

@@ -1,5 +1,6 @@
 -- One step of each loop that puts words back: what is left gives the whole, as before.
 use Rattle.std.proofs.Common.{◌≡◌, ℕ, zero, suc, ◌+◌, ◌*◌, ◌<◌, ◌≤◌, min, max, true, List, [], ◌∷◌, ◌++◌, length, drop, get_or, Option, Some, IsSome, arith, refl, ap, subst, sym, ◌∙◌, add-one}
+use Rattle.std.proofs.lemmas.Bool.{cond-false, cond-true, or_left, or_right}
 use Rattle.cd_base.specs.declared.place.Place.{Place}
 use Rattle.cd_base.specs.declared.place.Range.{Range}
 use Rattle.cd_base.specs.Words.{Words, in_range, same_place}
@@ -14,7 +15,8 @@ use Rattle.cd_tries.specs.declared.keep.Keep.{Keep}
 use Rattle.cd_tries.specs.declared.keep.Pieces.{Pieces}
 use Rattle.cd_tries.specs.Keeping.{Known, piece_words, keep_words, Cover, KeepFits, KeepsFit, HoldsThese, all_ids, keep_ids, times_in}
 use Rattle.cd_tries.specs.Refilling.{put_words, put_back, part_of_piece, refilled_from}
-use Rattle.cd_tries.proofs.PlaceTests.{Inside, inside_from, inside_to, by_test, chosen, other, or_left, or_right}
+use Rattle.cd_base.proofs.BoolLemmas.{by_test}
+use Rattle.cd_base.proofs.PlaceLemmas.{Inside, inside_from, inside_to}
 use Rattle.cd_tries.proofs.Putting.{from, rest_of, put_none, put_one, put_twice, range_parts, rest_parts}
 use Rattle.cd_tries.proofs.Refilled.{pieces_known, keep_known}
 
@@ -24,15 +26,15 @@ pub put_known : (w : Words) (r : Range) (m : FieldModel) (p : Place) → (in_ran
 put_known w r m p some known =
     let Q : Option ℕ → Type 0 = λ o. IsSome o in
     by_test (in_range r p)
-    (λ t. subst Q (sym (chosen (in_range r p) (w p) (m.words p) t)) (some t))
-    (λ f. subst Q (sym (other (in_range r p) (w p) (m.words p) f)) known)
+    (λ t. subst Q (sym (cond-true (in_range r p) (w p) (m.words p) t)) (some t))
+    (λ f. subst Q (sym (cond-false (in_range r p) (w p) (m.words p) f)) known)
 
 pub refilled_known : (m : FieldModel) (q : Place) (word : ℕ) (p : Place) → IsSome (m.words p) → IsSome ((refilled_word m q word).words p)
 refilled_known m q word p known =
     let Q : Option ℕ → Type 0 = λ o. IsSome o in
     by_test (same_place q p)
-    (λ t. subst Q (sym (chosen (same_place q p) (Some word) (m.words p) t)) refl)
-    (λ f. subst Q (sym (other (same_place q p) (Some word) (m.words p) f)) known)
+    (λ t. subst Q (sym (cond-true (same_place q p) (Some word) (m.words p) t)) refl)
+    (λ f. subst Q (sym (cond-false (same_place q p) (Some word) (m.words p) f)) known)
 
 -- ---- a pattern
 

@@ -5,3 +5,4 @@ pub mod Running
 pub mod Fitting
 pub mod KeepLaws
 pub mod TryLaws
+pub mod Sample

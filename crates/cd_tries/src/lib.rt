@@ -25,3 +25,6 @@ pub use preserving::preserve;
 pub use refilling::refill_all;
 pub use shelf::{Level, Shelf};
 pub use tries::{Attempt, Course, Stop, go_on, try_again};
+
+#[cfg(test)]
+mod try_tests;

@@ -85,7 +85,7 @@ pub fn try_again<F: Field, P: Pass>(
     field: &mut F,
     pass: &mut P,
 ) -> Result<Course, NoMemory>
-    requires { CanTry (means attempt.now.node attempt.now.domain.now attempt.now.halts (P.model pass.old).known attempt.now.keeps.now) (F.model field.old) (P.model pass.old) }
+    requires tries { CanTry (means attempt.now.node attempt.now.domain.now attempt.now.halts (P.model pass.old).known attempt.now.keeps.now) (F.model field.old) (P.model pass.old) }
     ensures course { IfOk result (λ course. tries_from (means attempt.now.node attempt.now.domain.now attempt.now.halts (P.model pass.old).known attempt.now.keeps.now) spare (next_begin begin) (tried_again (means attempt.now.node attempt.now.domain.now attempt.now.halts (P.model pass.old).known attempt.now.keeps.now) (next_begin begin) (F.model field.old)) ≡ record { field = F.model field.new; course = course }) }
     ensures pass { P.model pass.new ≡ P.model pass.old }
 {

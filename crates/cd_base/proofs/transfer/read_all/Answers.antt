@@ -1,5 +1,4 @@
 use Rattle.std.proofs.Common.{◌≡◌, ℕ, ◌≤◌, ◌+◌, ◌∙◌, min, length, take, arith, length-take}
-use Rattle.std.proofs.lemmas.Result.{err_from_is_err_and}
 use Rattle.cd_base.proofs.EndLemmas.{TookCount-more, TookAtMost-more}
 use Rattle.cd_base.proofs.transfer.read_all.Goals as goal
 
@@ -14,12 +13,11 @@ returns-then-count-room g c =
     TookCount-more (g.S.Source.model c.args.source.now) (g.S.Source.model c.loop-bytes.source) (g.S.Source.model c.read.new.self) had (take n c.read.new.buf)
     n (c.args.limit + 1) c.loop-bytes.invariant.taken c.in_ok-count.ensures.bytes.0 c.read.ensures.count c.in_ok-count.ensures.bound.1 (omega arith)
 
-pub returns-in_err-extend_from_slice : goal.returns-in_err-extend_from_slice
-returns-in_err-extend_from_slice g c =
-    let p = err_from_is_err_and c.from_residual-in_err-extend_from_slice.result c.from_residual-in_err-extend_from_slice.ensures.1 in
+pub returns-then-is_err : goal.returns-then-is_err
+returns-then-is_err g c =
     let had = c.loop-bytes.bytes.items in
     let n = c.in_ok-count.count in
-    rw (p.1, p.2) (TookAtMost-more (g.S.Source.model c.args.source.now) (g.S.Source.model c.loop-bytes.source) (g.S.Source.model c.read.new.self) had
+    TookAtMost-more (g.S.Source.model c.args.source.now) (g.S.Source.model c.loop-bytes.source) (g.S.Source.model c.read.new.self) had
     (take n c.read.new.buf) n c.args.limit c.loop-bytes.invariant.taken c.in_ok-count.ensures.bytes.0 c.read.ensures.count c.in_ok-count.ensures.bound.1
     (within_limit (length had) n (length c.read.new.buf) c.min-most.result (length c.loop-bytes.buffer) c.loop-bytes.room c.args.limit c.in_ok-count.ensures.bound.0
-    (c.read.auto.buf ∙ length-take c.min-most.result c.loop-bytes.buffer) c.min-most.ensures c.loop-bytes.invariant.room c.if-count-room.false))
+    (c.read.auto.buf ∙ length-take c.min-most.result c.loop-bytes.buffer) c.min-most.ensures c.loop-bytes.invariant.room c.if-count-room.false)

@@ -1,6 +1,6 @@
-use Rattle.std.proofs.Common.{ℕ, ◌+◌, ◌*◌, Option, drop}
+use Rattle.std.proofs.Common.{◌+◌, ◌*◌}
 use Rattle.cd_tree.specs.Domains.{node_of, members_by, body_by, body_numbers, member_numbers, body_depth, members_depth}
-use Rattle.cd_tree.specs.Parts.{WalkGives}
+use Rattle.cd_tree.proofs.Walk.{LeavesWhole}
 use Rattle.cd_tree.proofs.check.+walk.Given as goal
 
 -- a domain takes a level, and what it has in it is smaller in this order: items, one item, members, one domain
@@ -20,13 +20,9 @@ decreases-walk_members l = 4 * l.levels + 1
 abbrev pub invariant-walk_items-loop-item : goal.invariant-walk_items-loop-item
 invariant-walk_items-loop-item l =
     let find = node_of l.domains in
-    (end : Option ℕ)
-    → WalkGives (body_numbers (body_by find (drop l.item-index l.items))) (body_depth (body_by find (drop l.item-index l.items))) l.next l.levels end
-    → WalkGives (body_numbers (body_by find l.items)) (body_depth (body_by find l.items)) l.fn.at l.levels end
+    LeavesWhole (λ items. body_numbers (body_by find items)) (λ items. body_depth (body_by find items)) l.items l.item-index l.next l.fn.at l.levels
 
 abbrev pub invariant-walk_members-loop-id : goal.invariant-walk_members-loop-id
 invariant-walk_members-loop-id l =
     let find = node_of l.domains in
-    (end : Option ℕ)
-    → WalkGives (member_numbers (members_by find (drop l.id-index l.ids))) (members_depth (members_by find (drop l.id-index l.ids))) l.next l.levels end
-    → WalkGives (member_numbers (members_by find l.ids)) (members_depth (members_by find l.ids)) l.fn.at l.levels end
+    LeavesWhole (λ ids. member_numbers (members_by find ids)) (λ ids. members_depth (members_by find ids)) l.ids l.id-index l.next l.fn.at l.levels

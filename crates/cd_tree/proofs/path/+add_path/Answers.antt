@@ -1,7 +1,8 @@
 use Rattle.std.proofs.Common.{rules, ◌≡◌, ◌<◌, ◌++◌, ◌∷◌, [], List, ℕ, ap, ◌∙◌, string_bytes}
 use Rattle.cd_tree.specs.Paths.{path_text_of}
 use Rattle.cd_tree.proofs.PathParents.{parent_before}
-use Rattle.cd_tree.proofs.PathTexts.{at_root, below_parent, pushed}
+use Rattle.cd_base.proofs.ListLemmas.{pushed}
+use Rattle.cd_tree.proofs.PathTexts.{at_root, below_parent}
 use Rattle.cd_tree.proofs.path.+add_path.Goals as goal
 use Rattle.cd_tree.proofs.path.+add_path.Goals.{in-Some+in_ok-add_path+in_ok-push_str, in_default}
 

@@ -14,7 +14,7 @@ more_tries-requires-clause-tries g c =
     let q : PassModel = g.P.Pass.model c.one_more.new.pass in
     let P : PassModel → Type 0 = λ v. CanTry (means c.args.attempt.now.node c.args.attempt.now.domain.now c.args.attempt.now.halts v.known c.args.attempt.now.keeps.now) n q in
     λ _ _. subst P (sym c.in_ok-stop.ensures.pass)
-    (tries_again with c.saturating_add-begin.result (g.F.Field.model c.args.field.now) n (g.P.Pass.model c.args.pass.now) q c.in_ok-stop.stop c.requires
+    (tries_again with c.saturating_add-begin.result (g.F.Field.model c.args.field.now) n (g.P.Pass.model c.args.pass.now) q c.in_ok-stop.stop c.requires.tries
     c.in_ok-stop.ensures.field c.in_ok-stop.ensures.pass)
 
 pub returns-clause-course : goal.returns-clause-course
