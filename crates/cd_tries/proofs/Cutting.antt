@@ -1,5 +1,5 @@
 -- Pieces of a range, kept one by one; what a pass knows and has room for then.
-use Rattle.std.proofs.Common.{◌≡◌, ℕ, zero, suc, ◌+◌, ◌-◌, ◌*◌, ◌/◌, ◌<◌, ◌≤◌, min, Bool, true, false, cond, List, [], ◌∷◌, ◌++◌, length, take, drop, Option, None, Some, unwrap_or, IsSomeAnd, slice_get, arith, refl, ap, sym, subst, ◌∙◌, append_assoc, add-one, length-append}
+use Rattle.std.proofs.Common.{◌≡◌, ℕ, suc, ◌+◌, ◌-◌, ◌*◌, ◌<◌, ◌≤◌, Bool, true, false, cond, List, [], ◌∷◌, ◌++◌, length, Option, None, Some, unwrap_or, IsSomeAnd, slice_get, arith, refl, ap, sym, subst, ◌∙◌, append_assoc, add-one, length-append}
 use Rattle.cd_tries.proofs.Holding.{same_parts}
 use Rattle.std.proofs.lemmas.List.{append-nil, length_push}
 use Rattle.cd_base.specs.declared.place.Range.{Range}
@@ -7,7 +7,7 @@ use Rattle.cd_base.specs.Words.{Words}
 use Rattle.cd_tree.specs.Meaning.{blocks_of}
 use Rattle.cd_field.specs.FieldModel.{FieldModel, ArePresent, words_in}
 use Rattle.cd_keep.specs.declared.keep_id.KeepId.{KeepId}
-use Rattle.cd_keep.specs.PassModel.{PassModel, IsPiece, same_id, known_with, kept}
+use Rattle.cd_keep.specs.PassModel.{PassModel, IsPiece, same_id, kept}
 use Rattle.cd_tries.specs.declared.keep.Pieces.{Pieces}
 use Rattle.cd_tries.specs.Keeping.{Known, AreCut, Cover, text}
 use Rattle.cd_tries.specs.KeepLaws.{KnowsMore}

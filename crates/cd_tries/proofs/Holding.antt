@@ -1,5 +1,5 @@
 -- What a pass holds behind ids that were held once more, or given up, in order.
-use Rattle.std.proofs.Common.{◌≡◌, ℕ, zero, suc, ◌+◌, ◌-◌, ◌<◌, ◌≤◌, Bool, true, false, ◌&&◌, ◌==◌, cond, List, [], ◌∷◌, ◌++◌, length, get_or, drop, take, arith, refl, ap, sym, subst, ◌∙◌, append_assoc, Option, Some, IsSome, All, Contains}
+use Rattle.std.proofs.Common.{◌≡◌, ℕ, suc, ◌+◌, ◌-◌, ◌<◌, ◌≤◌, Bool, true, false, ◌==◌, cond, List, [], ◌∷◌, ◌++◌, length, get_or, drop, take, arith, refl, ap, sym, subst, ◌∙◌, Option, Some, IsSome, All, Contains}
 use Rattle.std.proofs.Math.Path.{fun_ext}
 use Rattle.std.proofs.lemmas.List.{drop_more, drop_all, take_more, length-take-le, get_or_default}
 use Rattle.std.proofs.lemmas.Bool.{eq-eqb, and_from, and_parts, cond-true}

@@ -1,16 +1,14 @@
 -- Which words the keeps of a first try give.
-use Rattle.std.proofs.Common.{◌≡◌, ℕ, suc, ◌+◌, ◌-◌, ◌*◌, ◌<◌, ◌≤◌, true, ◌||◌, List, [], ◌∷◌, length, take, drop, slice_get, Option, None, Some, IsSome, IsSomeAnd, All, arith, refl, ap, sym, subst, ◌∙◌}
+use Rattle.std.proofs.Common.{◌≡◌, ℕ, suc, ◌+◌, ◌-◌, ◌*◌, ◌<◌, ◌≤◌, true, List, [], ◌∷◌, length, slice_get, Option, None, Some, IsSome, IsSomeAnd, All, arith, refl, ap, sym, subst, ◌∙◌}
 use Rattle.std.proofs.lemmas.Bool.{or_left, or_right}
 use Rattle.cd_base.specs.declared.place.Place.{Place}
 use Rattle.cd_base.specs.declared.place.Range.{Range}
-use Rattle.cd_base.specs.declared.pattern.Pattern.{Pattern}
 use Rattle.cd_base.specs.Words.{Words, in_range}
 use Rattle.cd_tree.specs.declared.domain.NodeId.{NodeId}
 use Rattle.cd_tree.specs.declared.domain.How.{How}
 use Rattle.cd_tree.specs.declared.domain.How.TheVariants.{Copy, Refer, Regen}
 use Rattle.cd_tree.specs.declared.domain.Entry.{Entry}
 use Rattle.cd_tree.specs.declared.event.Event.{Event}
-use Rattle.cd_tree.specs.Legal.{GivesWords}
 use Rattle.cd_tree.specs.Locality.{SameWords}
 use Rattle.cd_tree.specs.Meaning.{in_entries, entry_need}
 use Rattle.cd_tree.specs.Operations.{IsFull}
@@ -133,9 +131,11 @@ all_gave id w links at (entry ∷ entries) (keep ∷ keeps) events p q full some
     entry_given w id at entry entry.how (links at) keep h.told p between refl here
     (λ place inside. some place (or_left (in_range entry.range place) (in_entries entries place) inside)) covers.0 spent.knows h.one in
     record {
-      given =
-          (given_stays between.known q.known w (links at) entry keep rest.knows fits
-          (λ refers. link_more p.known between.known (links at) entry.range spent.knows (covers.0 refers)) given, rest.given);
+      given = (
+        given_stays between.known q.known w (links at) entry keep rest.knows fits
+            (λ refers. link_more p.known between.known (links at) entry.range spent.knows (covers.0 refers)) given,
+        rest.given,
+      );
       knows = λ one words known. rest.knows one words (spent.knows one words known);
     }
 

@@ -1,5 +1,5 @@
 -- What the keeps of a first try hold, and what the pass has then.
-use Rattle.std.proofs.Common.{◌≡◌, ℕ, suc, ◌+◌, ◌-◌, ◌*◌, ◌/◌, ◌<◌, ◌≤◌, min, Bool, true, false, cond, List, [], ◌∷◌, ◌++◌, length, take, drop, slice_get, get_or, Option, None, Some, IsSomeAnd, All, sum_by, arith, refl, ap, sym, subst, ◌∙◌, length-append}
+use Rattle.std.proofs.Common.{◌≡◌, ℕ, suc, ◌+◌, ◌-◌, ◌*◌, ◌/◌, ◌<◌, ◌≤◌, min, List, [], ◌∷◌, ◌++◌, length, take, drop, slice_get, Option, None, Some, IsSomeAnd, All, sum_by, arith, refl, ap, sym, subst, ◌∙◌, length-append}
 use Rattle.std.proofs.lemmas.List.{length-take, length-drop, get_or-take, get_or-drop}
 use Rattle.std.proofs.lemmas.List.Sums.{sum_by-cons}
 use Rattle.std.proofs.lemmas.Option.{slice_get-get_or, slice_get_within}
@@ -9,21 +9,20 @@ use Rattle.cd_tree.specs.declared.domain.NodeId.{NodeId}
 use Rattle.cd_tree.specs.declared.domain.How.{How}
 use Rattle.cd_tree.specs.declared.domain.How.TheVariants.{Copy, Refer, Regen}
 use Rattle.cd_tree.specs.declared.domain.Entry.{Entry}
-use Rattle.cd_tree.specs.declared.domain.Domain.{Domain}
 use Rattle.cd_tree.specs.declared.event.Event.{Event}
 use Rattle.cd_tree.specs.Legal.{OfPattern}
-use Rattle.cd_tree.specs.Meaning.{blocks_of, blocks_kept, entry_need}
+use Rattle.cd_tree.specs.Meaning.{blocks_kept, entry_need}
 use Rattle.cd_tree.specs.Operations.{IsFull}
-use Rattle.cd_field.specs.FieldModel.{FieldModel, words_in}
+use Rattle.cd_field.specs.FieldModel.{words_in}
 use Rattle.cd_keep.specs.declared.keep_id.KeepId.{KeepId}
-use Rattle.cd_keep.specs.PassModel.{PassModel, HoldsNothing, same_id, kept, lapsed}
+use Rattle.cd_keep.specs.PassModel.{PassModel, same_id, kept, lapsed}
 use Rattle.cd_tries.specs.declared.keep.Pieces.{Pieces}
 use Rattle.cd_tries.specs.declared.keep.Keep.{Keep}
 use Rattle.cd_tries.specs.declared.keep.Keep.TheVariants as by
-use Rattle.cd_tries.specs.Fitting.{CanPreserve, LinksCover}
-use Rattle.cd_tries.specs.Keeping.{Known, Cover, AreCut, EachMeets, KeepFits, KeepsFit, HoldsThese, all_ids, keep_ids, times_in, text}
-use Rattle.cd_tries.specs.KeepLaws.{KnowsMore, HoldsKeeps, PreservedAreHeld}
-use Rattle.cd_tries.specs.Preserving.{nth_piece, KeepsFrom, IsCopy, IsPreserved, SavedAs, SavedAll, Spot, met, first_met, count_met, shared_each}
+use Rattle.cd_tries.specs.Fitting.{LinksCover}
+use Rattle.cd_tries.specs.Keeping.{Known, Cover, AreCut, EachMeets, KeepFits, KeepsFit, all_ids, keep_ids, times_in, text}
+use Rattle.cd_tries.specs.KeepLaws.{KnowsMore, PreservedAreHeld}
+use Rattle.cd_tries.specs.Preserving.{nth_piece, KeepsFrom, IsCopy, SavedAs, SavedAll, Spot, met, first_met, count_met, shared_each}
 use Rattle.cd_tries.proofs.Holding.{counted_more, shared_all, times_in-append}
 use Rattle.cd_tries.proofs.Cutting.{stays_covered}
 use Rattle.cd_tries.proofs.Preserved.{Spent, spent_by, links_stay, met_short}
@@ -121,10 +120,11 @@ copy_fits w entry pieces p q full copy =
     let begin : pieces.begin ≡ entry.range.low = copy.begin in
     let end : pieces.end ≡ entry.range.high = copy.end in
     let last : entry.range.low + 64 * (length pieces.ids - 1) < entry.range.high =
-    copy_begins entry.range.low entry.range.high (length pieces.ids) full copy.count in
-    (record { cut = copy_cut w entry.range pieces p q full copy; low = omega (arith, begin); high = omega (arith, end) },
-    begin,
-    record { first = omega (arith, begin); last = omega (arith, begin, last) })
+    copy_begins entry.range.low entry.range.high (length pieces.ids) full copy.count in (
+      record { cut = copy_cut w entry.range pieces p q full copy; low = omega (arith, begin); high = omega (arith, end) },
+      begin,
+      record { first = omega (arith, begin); last = omega (arith, begin, last) },
+    )
 
 -- numbers of pieces that meet a range
 pub record MetNumbers (begin end low high first count : ℕ) : Type 0 where
@@ -183,16 +183,17 @@ met_covers known link r full covers =
     let ids : List KeepId = take count (drop first link.ids) in
     let numbers : MetNumbers link.begin link.end r.low r.high first count = met_numbers link.begin link.end r.low r.high covers.low full covers.high in
     let long : length ids ≡ min count (length link.ids - first) =
-    length-take count (drop first link.ids) ∙ ap (min count) (length-drop first link.ids) in
-    (record {
-      cut = met_cut known link r full covers;
-      low = numbers.below;
-      high = (let a : r.high ≤ link.begin + 64 * (first + count) = numbers.above in let b : r.high ≤ link.end = covers.high in omega (arith, a, b));
-    },
-    record {
-      first = numbers.near;
-      last = met_last link.begin link.end r.low r.high first count (length ids) (length link.ids - first) numbers long;
-    })
+    length-take count (drop first link.ids) ∙ ap (min count) (length-drop first link.ids) in (
+      record {
+        cut = met_cut known link r full covers;
+        low = numbers.below;
+        high = (let a : r.high ≤ link.begin + 64 * (first + count) = numbers.above in let b : r.high ≤ link.end = covers.high in omega (arith, a, b));
+      },
+      record {
+        first = numbers.near;
+        last = met_last link.begin link.end r.low r.high first count (length ids) (length link.ids - first) numbers long;
+      },
+    )
   where
     met_last : (begin end low high first count n more : ℕ) → MetNumbers begin end low high first count → n ≡ min count more
         → begin + 64 * first + 64 * (n - 1) < high

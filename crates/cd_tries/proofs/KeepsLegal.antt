@@ -1,5 +1,5 @@
 -- What is told of entries as they are preserved is legal.
-use Rattle.std.proofs.Common.{◌≡◌, ◌≢◌, ℕ, suc, ◌+◌, ◌<◌, true, List, [], ◌∷◌, ◌++◌, Option, Some, IsSomeAnd, slice_get, option_and_then, arith, refl, ap, sym, subst, ◌∙◌}
+use Rattle.std.proofs.Common.{◌≡◌, ℕ, suc, ◌+◌, true, List, [], ◌∷◌, ◌++◌, Option, Some, IsSomeAnd, slice_get, option_and_then, arith, refl, ap, sym, subst, ◌∙◌}
 use Rattle.cd_base.specs.declared.place.Place.{Place}
 use Rattle.cd_base.specs.declared.place.Range.{Range}
 use Rattle.cd_base.specs.declared.pattern.Pattern.{Pattern}
@@ -11,7 +11,7 @@ use Rattle.cd_tree.specs.declared.domain.Entry.{Entry}
 use Rattle.cd_tree.specs.declared.domain.Domain.{Domain}
 use Rattle.cd_tree.specs.declared.event.Kept.TheVariants as kept_as
 use Rattle.cd_tree.specs.declared.event.Event.{Event}
-use Rattle.cd_tree.specs.declared.event.Event.TheVariants.{Saved, Fell, Lapsed}
+use Rattle.cd_tree.specs.declared.event.Event.TheVariants.{Saved}
 use Rattle.cd_tree.specs.Legal.{Legal, entry_at, OfPattern, IsPatternAnd, GivesWords, Differs, DiffersFirst}
 use Rattle.cd_tree.specs.Legal.{nothing as stands_nothing, same as stands_same, fell as stands_fallen, lapsed as stands_lapsed}
 use Rattle.cd_tree.specs.Locality.{SameWords}

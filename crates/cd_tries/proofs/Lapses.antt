@@ -1,5 +1,5 @@
 -- Each lapse that is told was answered by the pass.
-use Rattle.std.proofs.Common.{◌≡◌, ℕ, suc, ◌+◌, ◌≤◌, List, [], ◌∷◌, ◌++◌, length, Option, cond, count_by, arith, refl, ap, sym, ◌∙◌, length-append}
+use Rattle.std.proofs.Common.{◌≡◌, ℕ, suc, ◌+◌, ◌≤◌, List, [], ◌∷◌, ◌++◌, length, Option, cond, count_by, arith, ap, ◌∙◌}
 use Rattle.std.proofs.lemmas.List.{length_push}
 use Rattle.std.proofs.lemmas.List.Sums.{sum_by-append}
 use Rattle.cd_base.specs.declared.place.Range.{Range}
@@ -16,7 +16,7 @@ use Rattle.cd_tries.specs.declared.keep.Pieces.{Pieces}
 use Rattle.cd_tries.specs.declared.keep.Keep.{Keep}
 use Rattle.cd_tries.specs.declared.keep.Keep.TheVariants as by
 use Rattle.cd_tries.specs.KeepLaws.{is_lapse, LapsesAreAnswered}
-use Rattle.cd_tries.specs.Preserving.{nth_piece, KeepsFrom, SavedAs, SavedAll, Spot, shared_each}
+use Rattle.cd_tries.specs.Preserving.{nth_piece, KeepsFrom, SavedAs, SavedAll, Spot}
 use Rattle.cd_tries.proofs.Holding.{shared_all}
 
 -- how many lapses were told, and gone answers given

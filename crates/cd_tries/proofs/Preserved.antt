@@ -1,5 +1,5 @@
 -- Entries preserved one by one: what is preserved so far and the rest give the whole.
-use Rattle.std.proofs.Common.{◌≡◌, ℕ, zero, suc, ◌+◌, ◌-◌, ◌*◌, ◌/◌, ◌<◌, ◌≤◌, min, true, Bool, ◌||◌, List, [], ◌∷◌, ◌++◌, length, take, drop, get_or, Option, None, Some, IsSomeAnd, sum_by, arith, refl, ap, sym, subst, ◌∙◌, append_assoc, add-one}
+use Rattle.std.proofs.Common.{◌≡◌, ℕ, zero, suc, ◌+◌, ◌-◌, ◌/◌, ◌<◌, ◌≤◌, min, true, List, [], ◌∷◌, ◌++◌, length, take, drop, get_or, Option, None, Some, IsSomeAnd, sum_by, arith, refl, ap, sym, subst, ◌∙◌, append_assoc, add-one}
 use Rattle.std.proofs.lemmas.Bool.{or_left, or_right}
 use Rattle.std.proofs.lemmas.List.{append-nil, length_push, drop_more, drop_all, length-take}
 use Rattle.std.proofs.lemmas.List.Sums.{sum_by-drop_more}

@@ -1,9 +1,9 @@
 -- The text of pieces: what a part of the pieces has of the whole text, and which words the pieces of a range have.
-use Rattle.std.proofs.Common.{◌≡◌, ℕ, zero, suc, ◌+◌, ◌-◌, ◌*◌, ◌/◌, ◌<◌, ◌≤◌, min, true, nat_le, if◌then◌else◌, List, [], ◌∷◌, ◌++◌, length, take, drop, map, get_or, Option, None, Some, unwrap_or, IsSome, IsSomeAnd, slice_get, arith, refl, ap, sym, subst, ◌∙◌, add-one, length-append, inl, inr}
+use Rattle.std.proofs.Common.{◌≡◌, ℕ, zero, suc, ◌+◌, ◌-◌, ◌*◌, ◌/◌, ◌<◌, ◌≤◌, min, true, nat_le, if◌then◌else◌, List, [], ◌∷◌, ◌++◌, length, take, drop, map, get_or, Option, None, Some, unwrap_or, IsSome, IsSomeAnd, slice_get, arith, refl, ap, sym, subst, ◌∙◌, inl, inr}
 use Rattle.std.specs.List.{range_with_len}
-use Rattle.std.proofs.lemmas.Bool.{cases_lt, cond-true, le-leb}
+use Rattle.std.proofs.lemmas.Bool.{cases_lt, cond-true}
 use Rattle.std.proofs.lemmas.Bool.Decides.{nat_tests}
-use Rattle.std.proofs.lemmas.List.{append-nil, map-append, take_all, take-append-le, drop_all, drop_at, drop-drop, length-take, length-drop, get_or-take, get_or-drop}
+use Rattle.std.proofs.lemmas.List.{append-nil, map-append, take_all, drop_all, drop_at, drop-drop, length-take, length-drop, get_or-take, get_or-drop}
 use Rattle.std.proofs.lemmas.List.FromFn.{length-map-range_with_len, get_or-map-range_with_len}
 use Rattle.std.proofs.lemmas.Option.{slice_get-get_or, slice_get_within, none-some, same_Some}
 use Rattle.cd_base.specs.declared.place.Place.{Place}
@@ -120,11 +120,11 @@ piece_and_rest w r k =
     let next : ℕ = r.low + 64 * suc k in
     let whole : range_with_len low (length_of (rest_of r k)) ≡ range_with_len low m ++ range_with_len next n =
     elim (cases_lt (r.high - low) 64) [
-      inl short ↦
-        let none : n ≡ 0 = omega (arith, short) in
-        range_none low m (length_of (rest_of r k)) next (omega (arith, short))
-        ∙ ap (λ (v : ℕ). range_with_len low m ++ range_with_len next v) (sym none)
-    | inr long ↦ range_split low m n (length_of (rest_of r k)) next (omega (arith, long)) (omega (arith, long))
+      | inl short ↦
+          let none : n ≡ 0 = omega (arith, short) in
+          range_none low m (length_of (rest_of r k)) next (omega (arith, short))
+          ∙ ap (λ (v : ℕ). range_with_len low m ++ range_with_len next v) (sym none)
+      | inr long ↦ range_split low m n (length_of (rest_of r k)) next (omega (arith, long)) (omega (arith, long))
     ] in
     ap (map f) whole ∙ map-append f (range_with_len low m) (range_with_len next n)
 

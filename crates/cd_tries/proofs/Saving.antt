@@ -1,17 +1,16 @@
 -- One entry preserved: what is told of it, and what the pass knows and has room for then.
-use Rattle.std.proofs.Common.{◌≡◌, ◌≢◌, ℕ, zero, suc, ◌+◌, ◌-◌, ◌*◌, ◌/◌, ◌<◌, ◌≤◌, min, true, List, [], ◌∷◌, ◌++◌, length, take, drop, get_or, Option, None, Some, IsSome, IsSomeAnd, slice_get, All, Contains, arith, refl, ap, sym, subst, ◌∙◌, append_assoc}
+use Rattle.std.proofs.Common.{◌≡◌, ◌≢◌, ℕ, ◌+◌, ◌-◌, ◌<◌, min, List, [], ◌∷◌, length, take, drop, get_or, Option, Some, IsSome, slice_get, All, Contains, arith, refl, ap, sym, subst, ◌∙◌, append_assoc}
 use Rattle.std.proofs.lemmas.List.{get_or-take, get_or-drop, length-take, length-drop}
 use Rattle.std.proofs.lemmas.Option.{slice_get-get_or}
 use Rattle.cd_base.specs.declared.place.Place.{Place}
 use Rattle.cd_base.specs.declared.place.Range.{Range}
 use Rattle.cd_base.specs.declared.pattern.Pattern.{Pattern}
-use Rattle.cd_base.specs.Words.{in_range, pattern_word}
-use Rattle.cd_tree.specs.declared.domain.How.TheVariants.{Copy, Refer, Regen}
+use Rattle.cd_base.specs.Words.{pattern_word}
+use Rattle.cd_tree.specs.declared.domain.How.TheVariants.{Refer, Regen}
 use Rattle.cd_tree.specs.declared.event.Kept.TheVariants as kept_as
 use Rattle.cd_tree.specs.declared.event.Event.{Event}
 use Rattle.cd_tree.specs.declared.event.Event.TheVariants.{Saved, Fell, Lapsed}
 use Rattle.cd_tree.specs.Legal.{Differs, DiffersFirst}
-use Rattle.cd_tree.specs.Meaning.{blocks_of}
 use Rattle.cd_field.specs.FieldModel.{FieldModel, IsPresent, ArePresent, told}
 use Rattle.cd_keep.specs.declared.keep_id.KeepId.{KeepId}
 use Rattle.cd_keep.specs.declared.gone_note.GoneNote.{GoneNote}
@@ -104,14 +103,12 @@ met_known known link r ids is cut =
     subst Q (sym (ap known at ∙ f.1)) refl)
 
 pub lapsed_copied : (m mid n : FieldModel) (p gone q : PassModel) (at : ℕ) (r : Range) (link pieces : Pieces) (ids : List KeepId)
-    (note : GoneNote) (seen other : ℕ) → ids ≡ (met link r).ids → (id : KeepId) × Contains ids id × (gone ≡ lapsed p id note)
-    → seen ≡ note.seen → other ≡ note.found → note.seen ≢ note.found → mid ≡ told m (Lapsed m.node at seen other)
+    (note : GoneNote) → ids ≡ (met link r).ids → (id : KeepId) × Contains ids id × (gone ≡ lapsed p id note)
+    → note.seen ≢ note.found → mid ≡ told m (Lapsed m.node at note.seen note.found)
     → IsCopy mid.words r pieces gone q → n ≡ told mid (Saved mid.node at kept_as.Copy)
     → IsSaved (spot m at r (Some link)) Refer (by.Copied pieces) m n p q
-lapsed_copied m mid n p gone q at r link pieces ids note seen other of one is_seen is_found differ tells copy then =
+lapsed_copied m mid n p gone q at r link pieces ids note of one differ tells copy then =
     let lapse : Event = Lapsed m.node at note.seen note.found in
-    let now : mid ≡ told m lapse =
-    tells ∙ ap (λ (v : ℕ). told m (Lapsed m.node at v other)) is_seen ∙ ap (λ (v : ℕ). told m (Lapsed m.node at note.seen v)) is_found in
     let P : List KeepId → Type 0 = λ xs. Contains xs one.0 in
     let Q : PassModel → Type 0 = λ v. IsCopy m.words r pieces v q in
     record {
@@ -120,8 +117,8 @@ lapsed_copied m mid n p gone q at r link pieces ids note seen other of one is_se
         gone = record { id = one.0; note = note };
         asked = subst P of one.1;
         differ = differ;
-        copy = subst Q one.2 (same_copy m mid lapse r pieces gone q now copy);
+        copy = subst Q one.2 (same_copy m mid lapse r pieces gone q tells copy);
         said = refl;
       };
-      told = told_and_copied m mid n at lapse now then;
+      told = told_and_copied m mid n at lapse tells then;
     }

@@ -1,6 +1,5 @@
 -- Worked cases of keeps: how a range is cut, which pieces meet a range, which words pieces give.
-use Rattle.std.proofs.Common.{◌≡◌, ℕ, ◌+◌, ◌*◌, List, [], ◌∷◌, Option, None, Some, refl}
-use Rattle.cd_base.specs.declared.place.Range.{Range}
+use Rattle.std.proofs.Common.{◌≡◌, ℕ, ◌+◌, ◌*◌, List, [], ◌∷◌, None, Some, refl}
 use Rattle.cd_base.specs.declared.place.Place.{Place}
 use Rattle.cd_keep.specs.declared.keep_id.KeepId.{KeepId}
 use Rattle.cd_tries.specs.declared.keep.Pieces.{Pieces}

@@ -1,5 +1,5 @@
 -- What the calls need of a machine and a pass.
-use Rattle.std.specs.Prelude.{◌≡◌, ℕ, suc, ◌<◌, ◌≤◌, ◌^◌, true, List, [], ◌∷◌, All, IsSome, IsSomeAnd, length, sum_by, Option}
+use Rattle.std.specs.Prelude.{◌≡◌, ℕ, suc, ◌<◌, ◌≤◌, true, List, [], ◌∷◌, All, IsSome, IsSomeAnd, sum_by, Option}
 use Rattle.cd_base.specs.declared.place.Place.{Place}
 use Rattle.cd_base.specs.Words.{in_ranges}
 use Rattle.cd_tree.specs.declared.domain.NodeId.{NodeId}
@@ -14,7 +14,6 @@ use Rattle.cd_tree.specs.Operations.{op_reads, op_writes, FitsShape, IsFull}
 use Rattle.cd_field.specs.FieldModel.{FieldModel, IsPresent}
 use Rattle.cd_keep.specs.PassModel.{PassModel}
 use Rattle.cd_tries.specs.declared.keep.Pieces.{Pieces}
-use Rattle.cd_tries.specs.declared.keep.Keep.{Keep}
 use Rattle.cd_tries.specs.Keeping.{Known, Cover, KeepsFit, HoldsThese, all_ids}
 use Rattle.cd_tries.specs.Running.{Means}
 

@@ -1,5 +1,5 @@
 -- How entries are preserved: by a copy in pieces, by pieces of the link, or by the pattern; what is told, and what the pass has then.
-use Rattle.std.specs.Prelude.{◌≡◌, ◌≢◌, ℕ, zero, suc, ◌+◌, ◌-◌, ◌*◌, ◌/◌, min, List, [], ◌∷◌, ◌++◌, length, take, drop, Option, None, Some, IsSomeAnd, Contains}
+use Rattle.std.specs.Prelude.{◌≡◌, ◌≢◌, ℕ, suc, ◌+◌, ◌-◌, ◌*◌, ◌/◌, min, List, [], ◌∷◌, ◌++◌, length, take, drop, Option, None, IsSomeAnd, Contains}
 use Rattle.cd_base.specs.declared.pattern.Pattern.{Pattern}
 use Rattle.cd_base.specs.declared.place.Place.{Place}
 use Rattle.cd_base.specs.declared.place.Range.{Range}

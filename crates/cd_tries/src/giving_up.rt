@@ -1,5 +1,5 @@
 // Keeps that are given up.
-ghost use Rattle.std.specs.Prelude.{◌≡◌, ◌≤◌};
+ghost use Rattle.std.specs.Prelude.{◌≡◌, ◌≤◌, length, take};
 ghost use Rattle.cd_keep.specs.declared.keep_id.KeepId.{KeepId as Id};
 ghost use Rattle.cd_tries.specs.Keeping.{HoldsThese, all_ids, keep_ids, times_in};
 ghost use Rattle.cd_tries.specs.Refilling.{gave_up_each};
@@ -37,4 +37,13 @@ pub(crate) fn give_up_ids<P: Pass>(ids: &[KeepId], pass: &mut P)
     for id in ids {
         pass.give_up(*id);
     }
+}
+
+/// Gives up the first of some ids, in order. It takes no memory.
+pub(crate) fn give_up_first<P: Pass>(ids: &[KeepId], count: usize, pass: &mut P)
+    requires within { count ≤ length ids.now }
+    requires holds { (id : Id) → times_in id (take count ids.now) ≤ (P.model pass.old).holds id }
+    ensures { P.model pass.new ≡ gave_up_each (P.model pass.old) (take count ids.now) }
+{
+    give_up_ids(&ids[..count], pass);
 }

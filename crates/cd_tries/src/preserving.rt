@@ -1,9 +1,9 @@
 // The first try of a domain preserves its entries, each as it is declared.
-ghost use Rattle.std.specs.Prelude.{◌≡◌, ◌+◌, ◌≤◌, ◌∷◌, [], Option, Some, IfOk, IsSome, IsSomeAnd, OnOk, slice_get};
+ghost use Rattle.std.specs.Prelude.{◌≡◌, ◌≢◌, ◌+◌, ◌≤◌, ◌∷◌, [], Option, Some, IfOk, IsSome, IsSomeAnd, OnOk, slice_get};
 ghost use Rattle.std.specs.Option.{option_copied};
 ghost use Rattle.cd_tree.specs.declared.domain.How.TheVariants.{Refer, Regen};
 ghost use Rattle.cd_tree.specs.declared.event.Kept.TheVariants as kept_as;
-ghost use Rattle.cd_tree.specs.declared.event.Event.TheVariants.{Saved};
+ghost use Rattle.cd_tree.specs.declared.event.Event.TheVariants.{Lapsed, Saved};
 ghost use Rattle.cd_tree.specs.Legal.{entry_at};
 ghost use Rattle.cd_tree.specs.Meaning.{blocks_of, entry_need};
 ghost use Rattle.cd_tree.specs.Operations.{IsFull};
@@ -20,7 +20,7 @@ use crate::{Keep, Level, Pieces, Shelf};
 use cd_base::{Items, NoMemory, Pattern, Range};
 use cd_cover::Plan;
 use cd_field::Field;
-use cd_keep::Pass;
+use cd_keep::{GoneNote, Pass};
 use cd_tree::{Domain, Entry, How, Kept, NodeId};
 use std::alloc::Global;
 use std::sync::Wait;
@@ -73,8 +73,8 @@ fn linked(above: &[Level], up: NodeId, entry: u32) -> Option<&Pieces>
     None
 }
 
-// Preserves one entry as it is declared, with the pieces of its link, and tells the machine of it.
-fn preserve_entry<F: Field, P: Pass, R: Wait>(
+/// Preserves one entry as it is declared, with the pieces of its link, and tells the machine of it.
+pub(crate) fn preserve_entry<F: Field, P: Pass, R: Wait>(
     rt: &R,
     alloc: Global,
     at: u32,
@@ -145,11 +145,19 @@ fn save_reference<F: Field, P: Pass, R: Wait>(
             Ok(Keep::Shared(pieces))
         }
         Err(note) => {
-            field.lapsed(at, note.seen(), note.found())?;
+            tell_lapse(at, note, field)?;
             let pieces = save_copy(rt, alloc, at, range, field, pass)?;
             Ok(Keep::Copied(pieces))
         }
     }
+}
+
+// Tells the machine that a piece of the link was gone.
+fn tell_lapse<F: Field>(at: u32, note: GoneNote, field: &mut F) -> Result<(), NoMemory>
+    ensures told { OnOk result (F.model field.new ≡ told (F.model field.old) (Lapsed (F.model field.old).node at note.seen note.found)) }
+    ensures differ { note.seen ≢ note.found }
+{
+    field.lapsed(at, note.seen(), note.found())
 }
 
 // Keeps an entry by its pattern, where it gives the words; or copies these.

@@ -6,7 +6,7 @@ ghost use Rattle.cd_tree.specs.Operations.{IsFull};
 ghost use Rattle.cd_tries.specs.Preserving.{met, shared_each};
 
 use crate::Pieces;
-use crate::giving_up::give_up_ids;
+use crate::giving_up::give_up_first;
 use cd_base::{Items, NoMemory, Range};
 use cd_keep::{GoneNote, KeepId, Pass};
 use std::alloc::Global;
@@ -39,7 +39,7 @@ pub(crate) fn share_all<P: Pass>(ids: &[KeepId], pass: &mut P) -> Result<(), Gon
 {
     for (number, id) in ids.iter().enumerate() {
         if let Err(note) = pass.share(*id) {
-            give_up_ids(&ids[..number], pass);
+            give_up_first(ids, number, pass);
             return Err(note);
         }
     }

@@ -1,5 +1,5 @@
-use Rattle.std.proofs.Common.{◌≡◌, ◌≤◌, refl, arith, sym, subst, ℕ}
-use Rattle.cd_tries.specs.Keeping.{all_ids, times_in}
+use Rattle.std.proofs.Common.{refl, arith}
+use Rattle.cd_tries.specs.Keeping.{all_ids}
 use Rattle.cd_tries.specs.Refilling.{gave_up_each}
 use Rattle.cd_tries.proofs.Holding.{keep_held, keeps_left, no_keeps_left}
 use Rattle.cd_tries.proofs.giving_up.give_up_all.Goals as goal

@@ -1,9 +1,7 @@
-use Rattle.std.proofs.Common.{ℕ, Option, List, ◌≡◌, ◌≤◌, subst, sym, ap, ◌∙◌, sum_by, arith, length}
+use Rattle.std.proofs.Common.{ℕ, Option, List, ◌≡◌, ◌≤◌, subst, sym, sum_by, arith}
 use Rattle.std.proofs.lemmas.Result.{IfOk-weaker}
 use Rattle.cd_tree.specs.Meaning.{entry_need}
 use Rattle.cd_tree.specs.declared.domain.Entry.{Entry}
-use Rattle.cd_field.specs.FieldModel.{FieldModel}
-use Rattle.cd_keep.specs.PassModel.{PassModel}
 use Rattle.cd_tries.specs.declared.keep.Pieces.{Pieces}
 use Rattle.cd_tries.specs.declared.keep.Keep.{Keep}
 use Rattle.cd_tries.specs.Fitting.{ArePresentIn, LinksCover}

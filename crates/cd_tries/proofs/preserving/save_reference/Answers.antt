@@ -15,8 +15,8 @@ share_all-requires-clause-known g c = λ _ _.
 
 pub returns-in_ok-pieces-in-Err : goal.returns-in_ok-pieces-in-Err
 returns-in_ok-pieces-in-Err g c =
-    lapsed_copied (g.F.Field.model c.args.field.now) (g.F.Field.model c.lapsed.new.self) (g.F.Field.model c.save_copy.new.field)
+    lapsed_copied (g.F.Field.model c.args.field.now) (g.F.Field.model c.tell_lapse.new.field) (g.F.Field.model c.save_copy.new.field)
     (g.P.Pass.model c.args.pass.now) (g.P.Pass.model c.share_all.new.pass) (g.P.Pass.model c.save_copy.new.pass) c.args.at c.args.range
-    c.args.link.now c.in_ok-pieces-in-Err.pieces c.items.result.now c.in-Err.note c.seen.result c.found.result
-    (c.items.ensures.value ∙ ap (λ (v : Pieces). v.ids) c.in_ok-pieces.ensures) c.in-Err.ensures c.seen.ensures.value c.found.ensures.value
-    c.seen.ensures.differ c.in_ok-lapsed-in-Err.ensures c.in_ok-pieces-in-Err.ensures.copy c.in_ok-pieces-in-Err.ensures.told
+    c.args.link.now c.in_ok-pieces-in-Err.pieces c.items.result.now c.in-Err.note
+    (c.items.ensures.value ∙ ap (λ (v : Pieces). v.ids) c.in_ok-pieces.ensures) c.in-Err.ensures
+    c.tell_lapse.ensures.differ c.in_ok-tell_lapse-in-Err.ensures.told c.in_ok-pieces-in-Err.ensures.copy c.in_ok-pieces-in-Err.ensures.told

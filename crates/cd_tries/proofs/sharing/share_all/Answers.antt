@@ -1,5 +1,5 @@
 use Rattle.std.proofs.Common.{take}
-use Rattle.cd_tries.proofs.Holding.{no_id, nth_known, nth_room, gone_held, gone_undone, one_more_shared}
+use Rattle.cd_tries.proofs.Holding.{nth_known, nth_room, gone_held, gone_undone, one_more_shared}
 use Rattle.cd_tries.proofs.sharing.share_all.Goals as goal
 
 pub share-requires-clause-known : goal.share-requires-clause-known
@@ -12,16 +12,16 @@ share-requires-clause-room g c =
     nth_room (g.P.Pass.model c.args.pass.now) (g.P.Pass.model c.loop-number.pass) c.args.ids.now c.loop-number.number
     c.loop-number-test.true c.requires.room c.loop-number.invariant
 
-pub give_up_ids-requires-after_bounds : goal.give_up_ids-requires-after_bounds
-give_up_ids-requires-after_bounds g c = λ _ _.
+pub give_up_first-requires-clause-holds : goal.give_up_first-requires-clause-holds
+give_up_first-requires-clause-holds g c = λ _ _.
     gone_held (g.P.Pass.model c.args.pass.now) (g.P.Pass.model c.loop-number.pass) (g.P.Pass.model c.share.new.self)
     (take c.loop-number.number c.args.ids.now) _ c.in-Err.note c.loop-number.invariant c.in-Err.ensures
 
 pub returns-in-Err : goal.returns-in-Err
 returns-in-Err g c =
     gone_undone (g.P.Pass.model c.args.pass.now) (g.P.Pass.model c.loop-number.pass) (g.P.Pass.model c.share.new.self)
-    (g.P.Pass.model c.give_up_ids.new.pass) c.args.ids.now c.loop-number.number c.in-Err.note
-    c.loop-number-test.true c.requires.room c.loop-number.invariant c.in-Err.ensures c.give_up_ids.ensures
+    (g.P.Pass.model c.give_up_first.new.pass) c.args.ids.now c.loop-number.number c.in-Err.note
+    c.loop-number-test.true c.requires.room c.loop-number.invariant c.in-Err.ensures c.give_up_first.ensures
 
 pub loop-number-preserved : goal.loop-number-preserved
 loop-number-preserved g c =
