@@ -1,4 +1,10 @@
 //! The program `cd`: it hands its words, standard input and standard output to `run_cd`, and ends with the status.
+//!
+//!     $ bin/cd read < examples/leak.cd
+//!     committed
+//!     begins root 2
+//!     begins root/worker 2
+//!     total 4
 #![tactic(auto)]
 
 use cd_app::run_cd;

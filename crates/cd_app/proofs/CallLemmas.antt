@@ -1,27 +1,23 @@
 -- From the parts of a call to the outcome that it comes to.
-use Rattle.std.proofs.Common.{◌≡◌, ◌⊎◌, ℕ, ◌+◌, ◌≤◌, Bool, List, [], ◌++◌, length, Option, None, Some, Result, Ok, Err, refl, ap, sym, subst, ◌∙◌, inl, inr, arith}
+use Rattle.std.proofs.Common.{◌≡◌, ℕ, Bool, List, [], Option, None, Some, Result, Ok, Err, refl, ap, sym, subst, ◌∙◌, inl, inr, arith}
 use Rattle.std.specs.Prelude.{option_map, option_and_then}
 use Rattle.std.specs.Io.KnownBytes.{Consumes}
-use Rattle.cd_base.specs.Ends.{SourceModel, SinkModel, Took, TookAtMost}
+use Rattle.cd_base.specs.Ends.{SourceModel, SinkModel, TookAtMost}
 use Rattle.cd_tree.specs.declared.document.Document.{Document}
 use Rattle.cd_tree.specs.declared.document.Fault.{Fault}
-use Rattle.cd_tree.specs.declared.event.Cause.{Cause}
 use Rattle.cd_tree.specs.declared.refusal.Refusal.{Refusal}
 use Rattle.cd_check.specs.Checking.{FirstRefusalOf, Passes}
-use Rattle.cd_parse.specs.Reading.{parse}
 use Rattle.cd_field.specs.FieldModel.{FieldModel}
 use Rattle.cd_command.specs.declared.command.Command.{Command}
 use Rattle.cd_command.specs.CommandLine.{command_in}
-use Rattle.cd_app.specs.declared.actions.Action.{Action}
-use Rattle.cd_app.specs.declared.actions.Action.TheVariants as action
 use Rattle.cd_app.specs.declared.receive.Stop.{Stop}
 use Rattle.cd_app.specs.declared.receive.Stop.TheVariants as stop
 use Rattle.cd_app.specs.declared.status.Status.TheVariants.{NoMemory}
 use Rattle.cd_app.specs.Running.{HoldsRun, IsBuilt}
 use Rattle.cd_app.specs.Deeds.{Intake, one_document, Accepted, Deed, makes, says, runs, deed_of, deed_in, intake_of, intake_in}
 use Rattle.cd_app.specs.Outcomes.{Input, whole, too_much, unread, Gave, AcceptsBytes, Outcome, no_command, made, not_read, refused, said, not_built, ran, Runs, ComesOfInput, ComesOf}
-use Rattle.cd_app.specs.Calls.{Call, call_of, Comes, Leaves, Ends, TookWithin, ComesToRun, RanOut, Meets}
-use Rattle.cd_app.specs.Parts.{deed_for, IsRead, IsNone, Receives, ReadsBytes}
+use Rattle.cd_app.specs.Calls.{Call, call_of, Comes, Ends, TookWithin, Meets}
+use Rattle.cd_app.specs.Parts.{IsRead, IsNone, Receives, ReadsBytes}
 
 -- ---- what the words ask for
 
@@ -44,12 +40,6 @@ asks_for_nothing words parsed exact is = ap (option_map deed_of) (sym exact ∙ 
 pub takes_by : (words : List (List ℕ)) (deed : Deed) (intake : Intake) → deed_in words ≡ Some deed → intake_of deed ≡ Some intake
     → intake_in words ≡ Some intake
 takes_by words deed intake asked is = ap (option_and_then intake_of) asked ∙ is
-
--- each action takes one document
-pub action_takes : (to : Action) → intake_of (deed_for to) ≡ Some one_document
-action_takes action.Check = refl
-action_takes action.Read = refl
-action_takes (action.Run with_record) = refl
 
 -- what comes of a deed comes of the words that ask for it
 pub comes_by : (call : Call) (deed : Option Deed) (outcome : Outcome) → deed_in call.words ≡ deed

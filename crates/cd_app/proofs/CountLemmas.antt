@@ -1,9 +1,9 @@
 -- No count of faults falls in a call, since none falls in what it takes and writes.
-use Rattle.std.proofs.Common.{◌≡◌, ◌⊎◌, ℕ, ◌≤◌, List, Option, None, Some, refl, ap, sym, subst, inl, inr, arith}
+use Rattle.std.proofs.Common.{◌≡◌, ◌⊎◌, ℕ, ◌≤◌, List, Option, None, Some, ap, subst, inl, inr, arith}
 use Rattle.cd_base.specs.Ends.{SourceModel, SinkModel}
 use Rattle.cd_app.specs.declared.status.Status.{Status}
-use Rattle.cd_app.specs.Deeds.{Intake, Accepted, Deed, makes, says, runs, deed_in, intake_in}
-use Rattle.cd_app.specs.Outcomes.{Input, whole, too_much, unread, Gave, Outcome, no_command, made, not_read, refused, said, not_built, ran, ComesOf, text_of}
+use Rattle.cd_app.specs.Deeds.{Intake, Deed, makes, says, runs, deed_in, intake_in}
+use Rattle.cd_app.specs.Outcomes.{Input, whole, too_much, unread, Gave, Outcome, no_command, made, ComesOf, text_of}
 use Rattle.cd_app.specs.Calls.{Call, Leaves, Ends, Standing, by_text, by_line, by_fault, by_memory, standing, TookWithin, Stands}
 use Rattle.cd_app.specs.Due.{CountsDoNotFall}
 

@@ -1,21 +1,20 @@
 -- What a call comes to is due by the words and by the bytes that the source has; and one outcome is due.
-use Rattle.std.proofs.Common.{◌≡◌, ◌⊎◌, ℕ, ◌+◌, ◌<◌, ◌≤◌, Bool, List, ◌++◌, length, Option, None, Some, Result, Ok, Err, refl, ap, sym, subst, ◌∙◌, inl, inr, arith, append-nil, length-append}
-use Rattle.std.specs.Prelude.{option_map, option_and_then}
+use Rattle.std.proofs.Common.{◌≡◌, ◌⊎◌, ℕ, ◌+◌, ◌<◌, ◌≤◌, Bool, List, ◌++◌, length, Option, None, Some, Ok, Err, refl, ap, sym, subst, ◌∙◌, inl, inr, arith, append-nil, length-append}
+use Rattle.std.specs.Prelude.{option_and_then}
 use Rattle.std.specs.Io.KnownBytes.{Consumes, IsAtEnd}
-use Rattle.cd_base.specs.Ends.{SourceModel, SinkModel, Rose, Grew}
+use Rattle.cd_base.specs.Ends.{SourceModel, SinkModel, Rose}
 use Rattle.cd_tree.specs.declared.document.Document.{Document}
 use Rattle.cd_tree.specs.declared.document.Fault.{Fault}
 use Rattle.cd_tree.specs.declared.refusal.Refusal.{Refusal}
 use Rattle.cd_check.specs.Checking.{Question, FirstRefusalOf, Passes}
 use Rattle.cd_check.specs.Laws.{FirstRefusalIsOne, ScriptIsOne}
 use Rattle.cd_parse.specs.Laws.{ParsedIsWellRead}
-use Rattle.cd_parse.specs.Reading.{parse}
+use Rattle.cd_parse.specs.Parsing.{parse}
 use Rattle.cd_app.specs.declared.status.Status.{Status}
 use Rattle.cd_app.specs.declared.status.Status.TheVariants.{Done, Exhausted, Usage, Refused, ReadFault, WriteFault, NoMemory, NotBuilt}
-use Rattle.cd_app.specs.Running.{IsBuilt}
 use Rattle.cd_app.specs.Deeds.{Intake, Accepted, Deed, makes, says, runs, deed_in, intake_of, intake_in}
-use Rattle.cd_app.specs.Outcomes.{Input, whole, too_much, unread, Gave, AreInput, RefusesBytes, AcceptsBytes, Outcome, no_command, made, not_read, refused, said, not_built, ran, Runs, Judged, ComesOfInput, ComesOf, status_of, text_of}
-use Rattle.cd_app.specs.Calls.{Call, Ends, Standing, by_text, by_line, by_fault, by_memory, standing, Stands, Meets}
+use Rattle.cd_app.specs.Outcomes.{Input, whole, too_much, unread, Gave, AreInput, RefusesBytes, AcceptsBytes, Outcome, refused, said, Runs, Judged, ComesOfInput, ComesOf, text_of}
+use Rattle.cd_app.specs.Calls.{Call, Ends, Standing, by_text, by_line, by_fault, by_memory, standing, Stands}
 use Rattle.cd_app.specs.Due.{IsDue, Serves, ServesFor, OutcomeIsOne, OutcomeIsGiven, Gives}
 
 -- ---- the bytes that a source has

@@ -11,6 +11,7 @@ use Rattle.cd_tree.specs.declared.document.RawFault.{RawFault}
 use Rattle.cd_tree.specs.declared.document.Fault.{Fault}
 use Rattle.cd_tree.specs.declared.document.Document.{Document}
 use Rattle.cd_tree.specs.Domains.{root_of, domain_of}
+use Rattle.cd_tree.specs.Limits.{domains_limit, faults_limit}
 use Rattle.cd_tree.specs.Laws.{WordsStay, CoveredReach}
 use Rattle.cd_tree.specs.Meaning.{initial, initial_word, in_entries, node_reach, IsCovered}
 use Rattle.cd_tree.specs.TreeModel.{TreeModel}
@@ -36,7 +37,7 @@ added_bound m a (n ∷ ns) few =
 
 -- the counts of a program under a script have a sum of 64 bits
 pub sum_fits : (begins : List ℕ) (domains faults : ℕ) → All (λ (n : ℕ). n ≤ 1 + faults) begins → length begins ≡ domains
-    → domains ≤ 2048 → faults ≤ 256 → sum begins < 2 ^ 64
+    → domains ≤ domains_limit → faults ≤ faults_limit → sum begins < 2 ^ 64
 sum_fits begins domains faults few size less fewer =
     let each : All (λ (n : ℕ). n ≤ 257) begins = λ k d short. omega (arith, few k d short, fewer) in
     omega (arith, added_bound 257 0 begins each, size, less)

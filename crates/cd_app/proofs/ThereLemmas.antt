@@ -1,5 +1,5 @@
 -- Some outcome is due, whatever the words and the bytes.
-use Rattle.std.proofs.Common.{◌≡◌, ◌⊎◌, ℕ, zero, suc, ◌^◌, ◌<◌, ◌≤◌, ◌==◌, Bool, true, false, List, [], ◌∷◌, length, Option, None, Some, Result, Ok, Err, All, refl, inl, inr, sym, ◌∙◌, arith}
+use Rattle.std.proofs.Common.{◌≡◌, ◌⊎◌, ℕ, suc, ◌^◌, ◌<◌, ◌≤◌, ◌==◌, Bool, true, false, List, [], ◌∷◌, length, Option, None, Some, Result, Ok, Err, All, refl, inl, inr, sym, ◌∙◌, arith}
 use Rattle.std.specs.Prelude.{option_map}
 use Rattle.std.proofs.lemmas.Bool.{true≢false}
 use Rattle.std.proofs.lemmas.Bool.Decides.{Decides-eqb}
@@ -12,19 +12,20 @@ use Rattle.cd_tree.specs.declared.domain.How.{How}
 use Rattle.cd_tree.specs.declared.domain.How.TheVariants as kept
 use Rattle.cd_tree.specs.declared.refusal.Refusal.{Refusal}
 use Rattle.cd_tree.specs.KindSets.{no_kinds, halting}
+use Rattle.cd_tree.specs.Limits.{faults_limit}
 use Rattle.cd_tree.specs.TreeModel.{TreeModel}
 use Rattle.cd_check.specs.Checking.{Passes}
 use Rattle.cd_check.specs.There.{IsRefused, DocumentIsJudged}
 use Rattle.cd_single.specs.Single.{OnlyCopies, NeverHalts}
 use Rattle.cd_parse.specs.Laws.{ParsedIsWellRead}
 use Rattle.cd_parse.specs.WellRead.{WellRead}
-use Rattle.cd_parse.specs.Reading.{parse}
+use Rattle.cd_parse.specs.Parsing.{parse}
 use Rattle.cd_command.specs.declared.command.Command.{Command}
 use Rattle.cd_command.specs.declared.command.Command.TheVariants.{Check, Read, Lift, Run, Make}
 use Rattle.cd_command.specs.CommandLine.{command_in}
 use Rattle.cd_make.specs.Making.{make_text}
 use Rattle.cd_app.specs.Running.{IsBuilt, check_text, read_text, lift_text}
-use Rattle.cd_app.specs.Deeds.{Intake, one_document, Accepted, Deed, deed_of}
+use Rattle.cd_app.specs.Deeds.{one_document, Accepted, deed_of}
 use Rattle.cd_app.specs.Outcomes.{Input, whole, too_much, AreInput, AcceptsBytes, Outcome, no_command, made, refused, said, not_built, ran, Runs, Judged, ComesOfInput, ComesOf}
 use Rattle.cd_app.specs.Due.{OutcomeIsThere}
 
@@ -89,7 +90,7 @@ said_some text_of input = (said (text_of input), refl)
 
 -- a document that was read has no more strikes than a script may have
 few_strikes : (document : Document) → WellRead document → length document.faults < 2 ^ 32
-few_strikes document well = let few : length document.faults ≤ 256 = well.few_faults in omega arith
+few_strikes document well = let few : length document.faults ≤ faults_limit = well.few_faults in omega arith
 
 judged_some : ParsedIsWellRead → DocumentIsJudged → (Next : Accepted → Outcome → Type 0) → ComesSome Next → (bytes : List ℕ)
     → (outcome : Outcome) × Judged one_document bytes Next outcome

@@ -1,5 +1,5 @@
 -- From what a part of the code wrote, and the status that it gave, to what the whole call does.
-use Rattle.std.proofs.Common.{◌≡◌, Bool, ℕ, List, Option, None, Some, Result, Err, refl, ap, sym, subst, ◌∙◌}
+use Rattle.std.proofs.Common.{◌≡◌, Bool, ℕ, List, Option, None, Some, Result, Err, refl, ap, subst, ◌∙◌}
 use Rattle.cd_base.specs.declared.sink.WriteStop.{WriteStop}
 use Rattle.cd_base.specs.Ends.{SinkModel, WriteAll}
 use Rattle.cd_tree.specs.declared.document.Document.{Document}
@@ -20,7 +20,7 @@ use Rattle.cd_app.specs.Deeds.{one_document, Accepted, makes, says, runs, deed_i
 use Rattle.cd_app.specs.Outcomes.{refused, not_read, said, not_built, ran, made, no_command, status_by}
 use Rattle.cd_app.specs.Calls.{Call, Meets}
 use Rattle.cd_app.specs.Parts.{IsRead, IsNone, settled}
-use Rattle.cd_app.proofs.CallLemmas.{input_of, takes_by, none_refused, fault_ends, document_refused, said_ends, unbuilt_ends, ran_ends, usage_ends, made_ends, no_memory_yet, no_memory_for}
+use Rattle.cd_app.proofs.CallLemmas.{input_of, none_refused, fault_ends, document_refused, said_ends, unbuilt_ends, ran_ends, usage_ends, made_ends, no_memory_yet}
 use Rattle.cd_app.proofs.WriteLemmas.{told}
 
 -- ---- there is no document

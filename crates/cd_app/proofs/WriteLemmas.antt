@@ -1,6 +1,5 @@
 -- Texts that are written one behind the other, and the status of a call that wrote the text of an outcome.
-use Rattle.std.proofs.Common.{◌≡◌, ◌⊎◌, ℕ, ◌+◌, ◌≤◌, List, ◌++◌, length, take, Option, None, Some, Result, Ok, Err, refl, sym, subst, ◌∙◌, inl, inr, arith}
-use Rattle.std.specs.Io.KnownBytes.{Appends}
+use Rattle.std.proofs.Common.{◌≡◌, ◌⊎◌, ℕ, ◌+◌, ◌≤◌, List, ◌++◌, length, take, Option, None, Some, Result, Ok, Err, refl, sym, subst, inl, inr, arith}
 use Rattle.std.proofs.KnownBytes.{Appends-trans}
 use Rattle.std.proofs.lemmas.List.{take-append-le, length-append}
 use Rattle.std.proofs.Math.Seq.{take-append-add}
@@ -15,10 +14,9 @@ use Rattle.cd_print.specs.Canonical.{canonical}
 use Rattle.cd_reading.specs.Through.{cause_in}
 use Rattle.cd_report.specs.Texts.{accepted_line}
 use Rattle.cd_app.specs.declared.status.Status.{Status}
-use Rattle.cd_app.specs.declared.status.Status.TheVariants.{WriteFault}
 use Rattle.cd_app.specs.Running.{check_text}
 use Rattle.cd_app.specs.Outcomes.{Outcome, no_command, made, not_read, refused, said, not_built, ran, status_by, status_of, text_of}
-use Rattle.cd_app.specs.Calls.{Call, Ends, Standing, by_text, by_line, by_fault, by_memory, standing, CutShort, Stands, Meets}
+use Rattle.cd_app.specs.Calls.{Call, Ends, Standing, by_text, by_line, standing, CutShort, Stands, Meets}
 use Rattle.cd_app.specs.Parts.{by_standing, behind_fault, settled}
 
 -- ---- one text behind the other

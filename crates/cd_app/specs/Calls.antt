@@ -6,7 +6,7 @@ use Rattle.cd_app.specs.declared.status.Status.{Status}
 use Rattle.cd_app.specs.declared.status.Status.TheVariants.{Done, Exhausted, Usage, Refused, ReadFault, WriteFault, NoMemory, NotBuilt}
 use Rattle.cd_app.specs.Running.{HoldsRun}
 use Rattle.cd_app.specs.Deeds.{Intake, Accepted, deed_in, intake_in}
-use Rattle.cd_app.specs.Outcomes.{Gave, Outcome, no_command, made, not_read, refused, said, not_built, ran, ComesOf, status_of, text_of}
+use Rattle.cd_app.specs.Outcomes.{Gave, Outcome, no_command, made, ran, ComesOf, status_of, text_of}
 
 -- a call as it is seen from outside: the command's words, the source before and after, and the machine before and after
 pub record Call : Type 0 where

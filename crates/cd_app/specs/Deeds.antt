@@ -1,5 +1,6 @@
 -- What the words of a command ask for: a line for each command.
-use Rattle.std.specs.Prelude.{◌≡◌, ℕ, Bool, List, Option, None, Some, option_map, option_and_then}
+use Rattle.std.specs.Prelude.{ℕ, Bool, List, Option, None, Some, option_map, option_and_then}
+use Rattle.cd_tree.specs.Limits.{text_limit}
 use Rattle.cd_tree.specs.declared.document.Document.{Document}
 use Rattle.cd_tree.specs.declared.document.Fault.{Fault}
 use Rattle.cd_tree.specs.declared.refusal.Refusal.{Refusal}
@@ -21,7 +22,7 @@ pub record Intake : Type 0 where
 
 -- one document, and nothing behind it, of which the static checks are asked
 abbrev pub one_document : Intake
-one_document = record { limit = 1048576; beyond = TooLong; document_in = λ bytes. bytes; questions = static_checks }
+one_document = record { limit = text_limit; beyond = TooLong; document_in = λ bytes. bytes; questions = static_checks }
 
 -- an input that was accepted: its bytes, its document, and the script with which the document passes
 pub record Accepted : Type 0 where

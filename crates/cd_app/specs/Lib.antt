@@ -1,3 +1,4 @@
+-- What the contracts of this crate cite. To read first: Deeds, Outcomes, Calls, Due.
 pub mod Running
 pub mod Deeds
 pub mod Outcomes

@@ -4,11 +4,11 @@ use Rattle.cd_tree.specs.declared.document.Document.{Document}
 use Rattle.cd_tree.specs.declared.document.Fault.{Fault}
 use Rattle.cd_tree.specs.declared.refusal.Refusal.{Refusal}
 use Rattle.cd_tree.specs.Domains.{root_of}
-use Rattle.cd_tree.specs.Meaning.{initial, node_meaning, node_need}
+use Rattle.cd_tree.specs.Meaning.{initial, node_meaning}
 use Rattle.cd_tree.specs.Record.{reading}
 use Rattle.cd_check.specs.Checking.{FirstRefusal, Passes}
 use Rattle.cd_print.specs.Canonical.{lifted}
-use Rattle.cd_app.specs.Running.{IsBuilt, report_of}
+use Rattle.cd_app.specs.Running.{need_of, IsBuilt, report_of}
 
 -- it has the same first refusal, or none
 abbrev pub LiftedIsRefusedAlike : Type 0
@@ -29,7 +29,7 @@ LiftedMeansTheSame =
 -- it needs as many blocks
 abbrev pub LiftedNeedsTheSame : Type 0
 LiftedNeedsTheSame =
-    (document : Document) → node_need (root_of (lifted document).tree.domains) ≡ node_need (root_of document.tree.domains)
+    (document : Document) → need_of (lifted document).tree ≡ need_of document.tree
 
 -- it has the same reading under each script
 abbrev pub LiftedReadsTheSame : Type 0

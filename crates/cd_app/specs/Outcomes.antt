@@ -1,12 +1,12 @@
 -- What comes of a command: a line for each deed and each input; and the status and the text of each outcome.
-use Rattle.std.specs.Prelude.{◌≡◌, ◌⊎◌, ℕ, ◌<◌, ◌≤◌, Bool, List, length, Option, None, Some, Result, Ok, Err}
+use Rattle.std.specs.Prelude.{◌≡◌, ◌⊎◌, ℕ, ◌<◌, ◌≤◌, Bool, List, length, Option, None, Some, Ok, Err}
 use Rattle.cd_base.specs.Ends.{SourceModel, ReadAll}
 use Rattle.cd_base.specs.declared.transfer.ReadStop.TheVariants as stop
 use Rattle.cd_tree.specs.declared.document.Document.{Document}
 use Rattle.cd_tree.specs.declared.event.Cause.{Cause}
 use Rattle.cd_tree.specs.declared.refusal.Refusal.{Refusal}
 use Rattle.cd_check.specs.Checking.{FirstRefusalOf, Passes}
-use Rattle.cd_parse.specs.Reading.{parse}
+use Rattle.cd_parse.specs.Parsing.{parse}
 use Rattle.cd_reading.specs.Through.{cause_in}
 use Rattle.cd_report.specs.Texts.{refusal_line, usage_line, fault_line, not_built_line}
 use Rattle.cd_app.specs.declared.status.Status.{Status}

@@ -1,5 +1,5 @@
 -- What the parts of a call answer.
-use Rattle.std.specs.Prelude.{◌≡◌, ◌⊎◌, ℕ, List, Option, None, Some, Result, Ok, Err}
+use Rattle.std.specs.Prelude.{◌≡◌, ◌⊎◌, ℕ, List, Result, Ok, Err}
 use Rattle.cd_base.specs.Ends.{SourceModel, TookAtMost}
 use Rattle.cd_base.specs.declared.sink.WriteStop.{WriteStop}
 use Rattle.cd_base.specs.declared.sink.WriteStop.TheVariants as write
@@ -7,7 +7,7 @@ use Rattle.cd_tree.specs.declared.document.Document.{Document}
 use Rattle.cd_tree.specs.declared.document.Fault.{Fault}
 use Rattle.cd_check.specs.Checking.{Passes}
 use Rattle.cd_cover.specs.Plans.{PlanModel}
-use Rattle.cd_parse.specs.Reading.{parse}
+use Rattle.cd_parse.specs.Parsing.{parse}
 use Rattle.cd_parse.specs.WellRead.{WellRead}
 use Rattle.cd_app.specs.declared.actions.Action.{Action}
 use Rattle.cd_app.specs.declared.actions.Action.TheVariants as action
@@ -15,10 +15,10 @@ use Rattle.cd_app.specs.declared.receive.Stop.{Stop}
 use Rattle.cd_app.specs.declared.receive.Stop.TheVariants as stop
 use Rattle.cd_app.specs.declared.status.Status.{Status}
 use Rattle.cd_app.specs.declared.status.Status.TheVariants.{WriteFault, NoMemory}
-use Rattle.cd_app.specs.Running.{check_text, read_text}
-use Rattle.cd_app.specs.Deeds.{Intake, one_document, Deed, says, runs}
-use Rattle.cd_app.specs.Outcomes.{Input, whole, too_much, unread, Gave, ComesOfInput, refused}
-use Rattle.cd_app.specs.Calls.{Call, Standing, by_text, standing}
+use Rattle.cd_app.specs.Running.{need_of, check_text, read_text, lift_text}
+use Rattle.cd_app.specs.Deeds.{Intake, one_document, Deed, says}
+use Rattle.cd_app.specs.Outcomes.{whole, too_much, unread, Gave}
+use Rattle.cd_app.specs.Calls.{Standing, by_text, standing}
 
 -- ---- receiving a document
 
@@ -48,12 +48,20 @@ ReadsBytes bytes (Err (stop.Refused refusal)) = parse bytes ≡ Err refusal
 ReadsBytes bytes (Err stop.ReadFault) = ⊥
 ReadsBytes bytes (Err stop.NoMemory) = Unit {0}
 
--- ---- what is done with a document
+-- ---- what is said of a document
+
+abbrev pub text_for : Action → Document → List Fault → List ℕ
+text_for action.Check document script = check_text document
+text_for action.Read document script = read_text document script
+text_for action.Lift document script = lift_text document
 
 abbrev pub deed_for : Action → Deed
-deed_for action.Check = says one_document (λ input. check_text input.document)
-deed_for action.Read = says one_document (λ input. read_text input.document input.script)
-deed_for (action.Run with_record) = runs one_document with_record
+deed_for to = says one_document (λ input. text_for to input.document input.script)
+
+-- the checks pass a document with a script, and its program needs so many blocks
+pub record IsSound (document : Document) (need : ℕ) (script : List Fault) : Type 0 where
+  pub passes : Passes document script
+  pub needs : need ≡ need_of document.tree
 
 -- ---- statuses of writes
 

@@ -17,9 +17,13 @@ use Rattle.cd_report.specs.Texts.{reading_text, accepted_line}
 
 -- ---- the texts of the actions
 
+-- the blocks that a run of a program needs
+abbrev pub need_of : TreeModel → ℕ
+need_of tree = node_need (root_of tree.domains)
+
 -- the text of `check`: a line of counts, then the canonical text
 unfoldable pub check_text : Document → List ℕ
-check_text document = accepted_line document (node_need (root_of document.tree.domains)) ++ canonical document
+check_text document = accepted_line document (need_of document.tree) ++ canonical document
 
 -- the text of `read`, from the one-thread reading
 unfoldable pub read_text : Document → List Fault → List ℕ

@@ -1,26 +1,22 @@
+//! The actions that say something of a document: `check`, `read` and `lift`.
+
 ghost use Rattle.std.specs.Prelude.{◌≡◌, ◌≤◌, ℕ, List, Some, Err, length, MatchResult};
 ghost use Rattle.cd_base.specs.Ends.{WriteAll};
-ghost use Rattle.cd_tree.specs.declared.document.Fault.{Fault};
-ghost use Rattle.cd_tree.specs.Domains.{root_of};
-ghost use Rattle.cd_tree.specs.Meaning.{node_need};
-ghost use Rattle.cd_check.specs.Checking.{Passes, Checks};
-ghost use Rattle.cd_parse.specs.WellRead.{WellRead};
+ghost use Rattle.cd_tree.specs.Limits.{faults_limit};
 ghost use Rattle.cd_field.specs.FieldModel.{FieldModel};
-ghost use Rattle.cd_command.specs.declared.command.Command.TheVariants as command;
-ghost use Rattle.cd_app.specs.Running.{check_text, read_text, lift_text};
-ghost use Rattle.cd_app.specs.Deeds.{one_document, deed_of, deed_in, intake_in};
-ghost use Rattle.cd_app.specs.Calls.{Call, Meets, call_of};
-ghost use Rattle.cd_app.specs.Parts.{IsRead, IsPassed, deed_for};
+ghost use Rattle.cd_check.specs.Checking.{Checks};
+ghost use Rattle.cd_app.specs.Running.{need_of, check_text, read_text, lift_text};
+ghost use Rattle.cd_app.specs.Deeds.{deed_in};
+ghost use Rattle.cd_app.specs.Calls.{Meets, call_of};
+ghost use Rattle.cd_app.specs.Parts.{IsSound, deed_for, text_for};
 
 use crate::Status;
 use crate::receive::receive;
-use crate::run::run_document;
 use crate::status::settled;
 use crate::tell::{tell, tell_of};
 use cd_base::{NoMemory, Sink, Source, WriteStop};
 use cd_check::check;
 use cd_cover::Plan;
-use cd_field::Field;
 use cd_foot::Footprints;
 use cd_parse::laws::a_document_is_well_read;
 use cd_print::{lifted, print_document};
@@ -29,102 +25,74 @@ use cd_report::{write_accepted, write_reading};
 use cd_tree::{Document, NodeId, Refuse, Script};
 use std::alloc::Global;
 
-// What is done with a document that the checks pass, on its plan and its script.
+// What is said of a document that the checks pass.
 #[derive(Clone, Copy, Drop)]
 pub(crate) enum Action {
     Check,
     Read,
-    Run { with_record: bool },
+    Lift,
 }
 
-// Does an action with the document that the source gives.
-pub(crate) fn act<S: Source, K: Sink, F: Field>(
+// Says it of the document that the source gives.
+pub(crate) fn act<S: Source, K: Sink>(
     alloc: Global,
     action: Action,
     source: &mut S,
     sink: &mut K,
-    machine: &mut F,
 ) -> Status
-    ensures { (words : List (List ℕ)) → deed_in words ≡ Some (deed_for action) → Meets (call_of words (S.model source.old) (S.model source.new) (F.model machine.old) (F.model machine.new)) (K.model sink.old) (K.model sink.new) result }
+    ensures { (words : List (List ℕ)) (m : FieldModel) → deed_in words ≡ Some (deed_for action) → Meets (call_of words (S.model source.old) (S.model source.new) m m) (K.model sink.old) (K.model sink.new) result }
 {
     a_document_is_well_read();
     match receive(alloc, source) {
-        Ok(document) => judge(alloc, action, &document, sink, machine),
-        Err(stop) => tell(alloc, stop, sink),
-    }
-}
-
-// Does an action with a document, if the checks pass it.
-fn judge<K: Sink, F: Field>(
-    alloc: Global,
-    action: Action,
-    document: &Document,
-    sink: &mut K,
-    machine: &mut F,
-) -> Status
-    requires well { WellRead document.now }
-    ensures { (call : Call) → deed_in call.words ≡ Some (deed_for action) → intake_in call.words ≡ Some one_document → IsRead one_document call.source_was call.source_now document.now → call.machine_was ≡ F.model machine.old → call.machine_now ≡ F.model machine.new → Meets call (K.model sink.old) (K.model sink.new) result }
-{
-    match Footprints::of(alloc, &document.tree) {
-        Ok(feet) => match check(alloc, document, &feet) {
-            Ok((plan, script)) => perform(alloc, action, document, &plan, &script, sink, machine),
-            Err(refuse) => tell_of(alloc, document, refuse, sink),
-        },
-        Err(NoMemory) => Status::NoMemory,
-    }
-}
-
-// Does an action with a document that the checks pass.
-fn perform<K: Sink, F: Field>(
-    alloc: Global,
-    action: Action,
-    document: &Document,
-    plan: &Plan,
-    script: &Script,
-    sink: &mut K,
-    machine: &mut F,
-) -> Status
-    requires { IsPassed document.now plan.now script.now }
-    ensures { (call : Call) → deed_in call.words ≡ Some (deed_for action) → IsRead one_document call.source_was call.source_now document.now → call.machine_was ≡ F.model machine.old → call.machine_now ≡ F.model machine.new → Meets call (K.model sink.old) (K.model sink.new) result }
-{
-    match action {
-        Action::Check => settled(write_check(alloc, document, plan, sink), Status::Done),
-        Action::Read => settled(write_read(alloc, document, script, sink), Status::Done),
-        Action::Run { with_record } => run_document(
-            alloc,
-            with_record,
-            document,
-            plan,
-            script,
-            sink,
-            machine,
-        ),
-    }
-}
-
-// Does `lift` with the document that the source gives. What it writes takes the document apart, so nothing may stand on it.
-pub(crate) fn lift<S: Source, K: Sink>(alloc: Global, source: &mut S, sink: &mut K) -> Status
-    ensures { (words : List (List ℕ)) (m : FieldModel) → deed_in words ≡ Some (deed_of command.Lift) → Meets (call_of words (S.model source.old) (S.model source.new) m m) (K.model sink.old) (K.model sink.new) result }
-{
-    match receive(alloc, source) {
         Ok(document) => match passes(alloc, &document) {
-            Ok(()) => settled(write_lift(alloc, document, sink), Status::Done),
+            Ok((need, script)) => {
+                let wrote = write_text(alloc, action, document, need, &script, sink);
+                settled(wrote, Status::Done)
+            }
             Err(refuse) => tell_of(alloc, &document, refuse, sink),
         },
         Err(stop) => tell(alloc, stop, sink),
     }
 }
 
-// Whether the checks pass a document.
-fn passes(alloc: Global, document: &Document) -> Result<(), Refuse>
-    ensures { MatchResult result (λ _. (script : List Fault) × Passes document.now script) (λ refuse. Checks document.now (Err refuse)) }
+// The need and the script of a document that the checks pass.
+fn passes(alloc: Global, document: &Document) -> Result<(u32, Script), Refuse>
+    ensures { MatchResult result (λ found. IsSound document.now found.0 found.1) (λ refuse. Checks document.now (Err refuse)) }
 {
     match Footprints::of(alloc, &document.tree) {
         Ok(feet) => match check(alloc, document, &feet) {
-            Ok(_) => Ok(()),
+            Ok((plan, script)) => Ok((whole_need(&plan), script)),
             Err(refuse) => Err(refuse),
         },
         Err(NoMemory) => Err(Refuse::NoMemory),
+    }
+}
+
+// The blocks that a run of the whole program needs.
+fn whole_need(plan: &Plan) -> u32
+    ensures { result ≡ need_of plan.now.tree }
+{
+    prove!(0 < plan.tree().count());
+    plan.need(NodeId(0))
+}
+
+// Writes the text of an action. The document is taken apart for `lift`, so nothing may stand on it.
+fn write_text<K: Sink>(
+    alloc: Global,
+    action: Action,
+    document: Document,
+    need: u32,
+    script: &Script,
+    sink: &mut K,
+) -> Result<(), WriteStop>
+    requires sound { IsSound document need script.now }
+    requires few { length script.now ≤ faults_limit }
+    ensures { WriteAll (K.model sink.old) (K.model sink.new) (text_for action document script.now) result }
+{
+    match action {
+        Action::Check => write_check(alloc, &document, need, sink),
+        Action::Read => write_read(alloc, &document, script, sink),
+        Action::Lift => write_lift(alloc, document, sink),
     }
 }
 
@@ -140,24 +108,16 @@ fn write_lift<K: Sink>(alloc: Global, document: Document, sink: &mut K) -> Resul
 fn write_check<K: Sink>(
     alloc: Global,
     document: &Document,
-    plan: &Plan,
+    need: u32,
     sink: &mut K,
 ) -> Result<(), WriteStop>
-    requires { plan.now.tree ≡ document.now.tree }
+    requires { need ≡ need_of document.now.tree }
     ensures { WriteAll (K.model sink.old) (K.model sink.new) (check_text document.now) result }
 {
-    match write_accepted(alloc, document, whole_need(plan), sink) {
+    match write_accepted(alloc, document, need, sink) {
         Ok(()) => print_document(alloc, document, sink),
         Err(stop) => Err(stop),
     }
-}
-
-// The blocks that a run of the whole program needs.
-fn whole_need(plan: &Plan) -> u32
-    ensures { result ≡ node_need (root_of plan.now.tree.domains) }
-{
-    prove!(0 < plan.tree().count());
-    plan.need(NodeId(0))
 }
 
 // Writes the one-thread reading of a document's program under its script.
@@ -168,7 +128,7 @@ fn write_read<K: Sink>(
     script: &Script,
     sink: &mut K,
 ) -> Result<(), WriteStop>
-    requires { length script.now ≤ 256 }
+    requires { length script.now ≤ faults_limit }
     ensures { WriteAll (K.model sink.old) (K.model sink.new) (read_text document.now script.now) result }
 {
     let tree = &document.tree;

@@ -1,7 +1,14 @@
+//! The top calls: `run_cd` for all commands, `plain_cd` for those that run nothing.
+
+ghost use Rattle.std.specs.Prelude.{◌≡◌, Some, IfOk, IfErr, OnErr};
+ghost use Rattle.cd_field.specs.FieldModel.{FieldModel};
+ghost use Rattle.cd_command.specs.declared.command.Command.TheVariants as command;
+ghost use Rattle.cd_command.specs.CommandLine.{command_in};
 ghost use Rattle.cd_app.specs.Calls.{Meets, call_of};
 
 use crate::Status;
-use crate::actions::{Action, act, lift};
+use crate::actions::{Action, act};
+use crate::run::run_source;
 use crate::status::settled;
 use cd_base::{NoMemory, Sink, Source};
 use cd_command::{Command, Words, command_of};
@@ -9,6 +16,13 @@ use cd_field::Field;
 use cd_make::write_make;
 use cd_report::write_usage;
 use std::alloc::Global;
+
+/// A run that words ask for: by how many workers, and whether its record is written.
+#[derive(Clone, Copy, Drop)]
+pub struct AskedRun {
+    pub workers: u32,
+    pub with_record: bool,
+}
 
 /// Does what the words say. All but `make` read a document from the source; `run` runs it on the machine, and no other
 /// command touches that; each writes its text to the sink. The number of workers has no effect as yet.
@@ -21,15 +35,44 @@ pub fn run_cd<S: Source, K: Sink, F: Field>(
 ) -> Status
     ensures { Meets (call_of words.now (S.model source.old) (S.model source.new) (F.model machine.old) (F.model machine.new)) (K.model sink.old) (K.model sink.new) result }
 {
+    match plain_cd(alloc, words, source, sink) {
+        Ok(status) => status,
+        Err(asked) => run_source(alloc, asked.with_record, source, sink, machine),
+    }
+}
+
+/// Does what the words say, unless they ask for a run: then it does nothing, and gives that run back. It takes no machine
+/// and no handle, so it never waits: whatever machines there are, each is as it was.
+pub fn plain_cd<S: Source, K: Sink>(
+    alloc: Global,
+    words: &Words,
+    source: &mut S,
+    sink: &mut K,
+) -> Result<Status, AskedRun>
+    ensures done { IfOk result (λ status. (m : FieldModel) → Meets (call_of words.now (S.model source.old) (S.model source.new) m m) (K.model sink.old) (K.model sink.new) status) }
+    ensures run { IfErr result (λ run. command_in words.now ≡ Some (command.Run run.workers run.with_record)) }
+    ensures source { OnErr result (S.model source.new ≡ S.model source.old) }
+    ensures sink { OnErr result (K.model sink.new ≡ K.model sink.old) }
+{
     match command_of(alloc, words) {
-        Ok(Some(Command::Check)) => act(alloc, Action::Check, source, sink, machine),
-        Ok(Some(Command::Read)) => act(alloc, Action::Read, source, sink, machine),
-        Ok(Some(Command::Lift)) => lift(alloc, source, sink),
-        Ok(Some(Command::Run { with_record, .. })) => {
-            act(alloc, Action::Run { with_record }, source, sink, machine)
+        Ok(Some(Command::Check)) => Ok(act(alloc, Action::Check, source, sink)),
+        Ok(Some(Command::Read)) => Ok(act(alloc, Action::Read, source, sink)),
+        Ok(Some(Command::Lift)) => Ok(act(alloc, Action::Lift, source, sink)),
+        Ok(
+            Some(
+                Command::Run {
+                    workers,
+                    with_record,
+                },
+            ),
+        ) => Err(AskedRun {
+            workers,
+            with_record,
+        }),
+        Ok(Some(Command::Make { size })) => {
+            Ok(settled(write_make(alloc, size, sink), Status::Done))
         }
-        Ok(Some(Command::Make { size })) => settled(write_make(alloc, size, sink), Status::Done),
-        Ok(None) => settled(write_usage(sink), Status::Usage),
-        Err(NoMemory) => Status::NoMemory,
+        Ok(None) => Ok(settled(write_usage(sink), Status::Usage)),
+        Err(NoMemory) => Ok(Status::NoMemory),
     }
 }

@@ -1,14 +1,14 @@
+//! The document that a source gives, or why there is none.
+
 ghost use Rattle.std.specs.Prelude.{◌≤◌, length};
 ghost use Rattle.cd_app.specs.Deeds.{one_document};
 ghost use Rattle.cd_app.specs.Parts.{ReadsBytes, Receives};
 
 use cd_base::{ReadStop, Source, read_all};
 use cd_parse::read_document;
+use cd_tree::limits::MOST_TEXT;
 use cd_tree::{Document, Refusal, Refuse};
 use std::alloc::Global;
-
-// The most bytes that an input may have.
-const LIMIT: u32 = 1_048_576;
 
 // Why there is no document.
 #[derive(Drop)]
@@ -22,7 +22,7 @@ pub(crate) enum Stop {
 pub(crate) fn receive<S: Source>(alloc: Global, source: &mut S) -> Result<Document, Stop>
     ensures { Receives one_document (S.model source.old) (S.model source.new) result }
 {
-    match read_all(alloc, source, LIMIT) {
+    match read_all(alloc, source, MOST_TEXT) {
         Ok(bytes) => read_bytes(alloc, bytes.as_slice()),
         Err(ReadStop::TooLong) => Err(Stop::Refused(Refusal::TooLong)),
         Err(ReadStop::Failed) => Err(Stop::ReadFault),

@@ -1,3 +1,5 @@
+//! How a call ends.
+
 ghost use Rattle.std.specs.Prelude.{◌≡◌};
 ghost use Rattle.cd_app.specs.Codes.{code_of};
 ghost use Rattle.cd_app.specs.Outcomes.{status_by};

@@ -1,3 +1,5 @@
+//! The lines that say why there is no text: refusals and faults.
+
 ghost use Rattle.std.specs.Prelude.{◌≡◌, Some, Err};
 ghost use Rattle.cd_check.specs.Checking.{Checks};
 ghost use Rattle.cd_app.specs.Deeds.{one_document, intake_in};

@@ -1,29 +1,16 @@
 -- Each document is judged, since each of its checks has an answer.
-use Rattle.std.proofs.Common.{◌≡◌, ◌⊎◌, ◌^◌, ◌<◌, length, List, [], ◌∷◌, Option, None, Some, refl, inl, inr}
+use Rattle.std.proofs.Common.{◌≡◌, ◌⊎◌, ◌^◌, ◌<◌, length, List, None, Some, inl, inr}
 use Rattle.cd_tree.specs.declared.document.Document.{Document}
 use Rattle.cd_tree.specs.declared.document.Fault.{Fault}
 use Rattle.cd_tree.specs.declared.refusal.Refusal.{Refusal}
 use Rattle.cd_tree.specs.TreeModel.{IsTree}
-use Rattle.cd_tree.specs.Refusals.{Then, FirstOf}
+use Rattle.cd_tree.proofs.RefusalLemmas.{HasAnswer, first_there}
 use Rattle.cd_foot.specs.Bounded.{FirstOverlapIsThere, NoOverlapIsDisjoint}
 use Rattle.cd_cover.specs.There.{FirstFlawIsThere}
 use Rattle.cd_script.specs.There.{FirstFaultIsThere, ScriptIsThere}
 use Rattle.cd_check.specs.Checking.{Question, overlap, flaw, fault, Answers, static_checks, FirstRefusal, Passes}
 use Rattle.cd_check.specs.Laws.{FirstRefusalIsOne}
 use Rattle.cd_check.specs.There.{IsRefused, DocumentIsJudged}
-
--- a question has an answer
-abbrev HasAnswer : (Option Refusal → Type 0) → Type 0
-HasAnswer Says = (answer : Option Refusal) × Says answer
-
-then_there : (First Second : Option Refusal → Type 0) → HasAnswer First → HasAnswer Second → HasAnswer (Then First Second)
-then_there First Second (None, first) (None, second) = (None, (first, second))
-then_there First Second (None, first) (Some r, second) = (Some r, inr (first, second))
-then_there First Second (Some r, first) other = (Some r, inl first)
-
-first_there : {A : Type 0} (Says : A → Option Refusal → Type 0) → ((x : A) → HasAnswer (Says x)) → (xs : List A) → HasAnswer (FirstOf Says xs)
-first_there Says each [] = (None, refl)
-first_there Says each (x ∷ xs) = then_there (Says x) (FirstOf Says xs) (each x) (first_there Says each xs)
 
 answer_there : FirstOverlapIsThere → FirstFlawIsThere → FirstFaultIsThere → (document : Document) (question : Question)
     → HasAnswer (Answers document question)

@@ -1,5 +1,5 @@
 -- The laws that each document is judged: it has a first refusal, or it passes with a script, and not both.
-use Rattle.std.specs.Prelude.{◌⊎◌, ◌^◌, ◌<◌, List, Option, Some, length}
+use Rattle.std.specs.Prelude.{◌⊎◌, ◌^◌, ◌<◌, List, Some, length}
 use Rattle.cd_tree.specs.declared.document.Document.{Document}
 use Rattle.cd_tree.specs.declared.document.Fault.{Fault}
 use Rattle.cd_tree.specs.declared.refusal.Refusal.{Refusal}

@@ -1,3 +1,4 @@
+// The static checks of a document, one after another.
 ghost use Rattle.cd_foot.specs.Feet.{AreFeet};
 ghost use Rattle.cd_check.specs.Checking.{Checks};
 

@@ -3,7 +3,9 @@ use Rattle.std.proofs.Common.{◌≡◌, ◌∙◌, ◌==◌, ◌||◌, ◌⊎�
 use Rattle.std.specs.Prelude.{⊤, option_map, option_and_then}
 use Rattle.cd_command.specs.declared.command.Command.{Command}
 use Rattle.cd_command.specs.declared.command.Command.TheVariants.{Check, Read, Lift}
-use Rattle.cd_command.specs.CommandLine.{Bytes, Kind, dashes, named, hyphened, plain, kind_of, behind_two, begins_with_hyphen, Choice, for_workers, for_size, for_record, choice_of, Part, action, workers, size, with_record, Seen, nothing_seen, put, put_first, Wanted, anything, value_for, all_positional, by_name, by_kind, by_value, read_on, given, given_with, Action, to_check, to_read, to_lift, to_run, to_make, unknown, action_of, run_of, make_of, number_or, command_for, command_by, command_in}
+use Rattle.cd_command.specs.declared.options.Action.{Action}
+use Rattle.cd_command.specs.declared.options.Action.TheVariants as act
+use Rattle.cd_command.specs.CommandLine.{Bytes, Kind, dashes, named, hyphened, plain, kind_of, behind_two, begins_with_hyphen, Choice, for_workers, for_size, for_record, choice_of, Part, action, workers, size, with_record, Seen, nothing_seen, put, put_first, Wanted, anything, value_for, all_positional, by_name, by_kind, by_value, read_on, given, given_with, action_of, run_of, make_of, number_or, command_for, command_by, command_in}
 use Rattle.cd_command.specs.Parses.{parse_on, parse_value, parsed_in}
 use Rattle.cd_command.proofs.WordLemmas.{by_test}
 use Rattle.cd_command.proofs.StepLemmas.{TakesValue}
@@ -21,29 +23,19 @@ SpoiltOrNone (Some seen) = IsSpoilt seen
 
 -- ---- it stays so
 
+-- a part that is given is spoilt no more than it was, or it is given twice
+put_once : (o : Option Bytes) (p : Part) (text : Bytes) (seen : Seen) → SpoiltOrNone (put_first None p text seen)
+    → SpoiltOrNone (put_first o p text seen)
+put_once None p text seen h = h
+put_once (Some t) p text seen h = tt
+
 put_spoilt : (p : Part) (text : Bytes) (seen : Seen) → IsSpoilt seen → SpoiltOrNone (put p text seen)
-put_spoilt action text seen h = go (seen action)
-  where
-    go : (o : Option Bytes) → SpoiltOrNone (put_first o action text seen)
-    go None = h
-    go (Some t) = tt
-put_spoilt with_record text seen h = go (seen with_record)
-  where
-    go : (o : Option Bytes) → SpoiltOrNone (put_first o with_record text seen)
-    go None = h
-    go (Some t) = tt
+put_spoilt action text seen h = put_once (seen action) action text seen h
+put_spoilt with_record text seen h = put_once (seen with_record) with_record text seen h
 put_spoilt workers text seen (inl e) = subst (λ o. SpoiltOrNone (put_first o workers text seen)) (sym e) tt
-put_spoilt workers text seen (inr e) = go (seen workers)
-  where
-    go : (o : Option Bytes) → SpoiltOrNone (put_first o workers text seen)
-    go None = inr e
-    go (Some t) = tt
+put_spoilt workers text seen (inr e) = put_once (seen workers) workers text seen (inr e)
 put_spoilt size text seen (inr e) = subst (λ o. SpoiltOrNone (put_first o size text seen)) (sym e) tt
-put_spoilt size text seen (inl e) = go (seen size)
-  where
-    go : (o : Option Bytes) → SpoiltOrNone (put_first o size text seen)
-    go None = inl e
-    go (Some t) = tt
+put_spoilt size text seen (inl e) = put_once (seen size) size text seen (inl e)
 
 then_spoilt : (next : Seen → Option Seen) (o : Option Seen) → ((seen : Seen) → IsSpoilt seen → SpoiltOrNone (next seen)) → SpoiltOrNone o
     → SpoiltOrNone (option_and_then next o)
@@ -163,35 +155,35 @@ close (word ∷ words) (value_for p) seen fine = value_close p fine words seen (
 -- ---- the command
 
 -- the command of an action by what was given
-abbrev by_given : Action → Bytes → Option Bytes → Option Bytes → Bool → Option Command
+abbrev by_given : Option Action → Bytes → Option Bytes → Option Bytes → Bool → Option Command
 by_given to word w s r = command_for to (record { word = word; workers = w; size = s; has_record = r })
 
 -- there is none where a hyphen is the number of workers
-no_workers : (to : Action) (word : Bytes) (s : Option Bytes) (r : Bool) → by_given to word (Some hyphen) s r ≡ None
-no_workers to_check word s r = refl
-no_workers to_read word s r = refl
-no_workers to_lift word s r = refl
-no_workers to_run word None r = refl
-no_workers to_run word (Some text) r = refl
-no_workers to_make word s r = refl
-no_workers unknown word s r = refl
+no_workers : (to : Option Action) (word : Bytes) (s : Option Bytes) (r : Bool) → by_given to word (Some hyphen) s r ≡ None
+no_workers (Some act.Check) word s r = refl
+no_workers (Some act.Read) word s r = refl
+no_workers (Some act.Lift) word s r = refl
+no_workers (Some act.Run) word None r = refl
+no_workers (Some act.Run) word (Some text) r = refl
+no_workers (Some act.Make) word s r = refl
+no_workers None word s r = refl
 
 -- nor where it is the size
-no_size : (to : Action) (word : Bytes) (w : Option Bytes) (r : Bool) → by_given to word w (Some hyphen) r ≡ None
-no_size to_check word None r = refl
-no_size to_check word (Some text) r = refl
-no_size to_read word None r = refl
-no_size to_read word (Some text) r = refl
-no_size to_lift word None r = refl
-no_size to_lift word (Some text) r = refl
-no_size to_run word w r = refl
-no_size to_make word None true = refl
-no_size to_make word None false = refl
-no_size to_make word (Some text) r = refl
-no_size unknown word None r = refl
-no_size unknown word (Some text) r = refl
+no_size : (to : Option Action) (word : Bytes) (w : Option Bytes) (r : Bool) → by_given to word w (Some hyphen) r ≡ None
+no_size (Some act.Check) word None r = refl
+no_size (Some act.Check) word (Some text) r = refl
+no_size (Some act.Read) word None r = refl
+no_size (Some act.Read) word (Some text) r = refl
+no_size (Some act.Lift) word None r = refl
+no_size (Some act.Lift) word (Some text) r = refl
+no_size (Some act.Run) word w r = refl
+no_size (Some act.Make) word None true = refl
+no_size (Some act.Make) word None false = refl
+no_size (Some act.Make) word (Some text) r = refl
+no_size None word None r = refl
+no_size None word (Some text) r = refl
 
-no_command : (to : Action) (word : Bytes) (seen : Seen) → IsSpoilt seen → command_for to (given_with seen word) ≡ None
+no_command : (to : Option Action) (word : Bytes) (seen : Seen) → IsSpoilt seen → command_for to (given_with seen word) ≡ None
 no_command to word seen (inl e) =
     ap (λ o. by_given to word o (seen size) (is_some (seen with_record))) e ∙ no_workers to word (seen size) (is_some (seen with_record))
 no_command to word seen (inr e) =

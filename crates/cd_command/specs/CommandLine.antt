@@ -3,6 +3,8 @@ use Rattle.std.specs.Prelude.{ℕ, ◌+◌, ◌*◌, ◌-◌, ◌==◌, ◌&&◌
 use Rattle.std.specs.List.{list_all, list_any, before_first, after_first}
 use Rattle.std.specs.Str.{bytes_eq}
 use Rattle.cd_command.specs.declared.command.Command.{Command}
+use Rattle.cd_command.specs.declared.options.Action.{Action}
+use Rattle.cd_command.specs.declared.options.Action.TheVariants as act
 use Rattle.cd_command.specs.declared.value.Values.{Values}
 use Rattle.cd_command.specs.declared.command.Command.TheVariants.{Check, Read, Lift, Run, Make}
 
@@ -43,21 +45,21 @@ begins_with_hyphen (b ∷ bytes) = b == 45
 
 -- ---- actions and options
 
--- the five actions
-pub data Action : Type 0 where
-  to_check : Action
-  to_read : Action
-  to_lift : Action
-  to_run : Action
-  to_make : Action
-  unknown : Action
+-- the action that the positional word names, one of five
+abbrev pub action_of : Bytes → Option Action
+action_of word = if bytes_eq word (codes "check") then Some act.Check
+    else (if bytes_eq word (codes "read") then Some act.Read
+    else (if bytes_eq word (codes "lift") then Some act.Lift
+    else (if bytes_eq word (codes "run") then Some act.Run
+    else (if bytes_eq word (codes "make") then Some act.Make else None))))
 
-abbrev pub action_of : Bytes → Action
-action_of word = if bytes_eq word (codes "check") then to_check
-    else (if bytes_eq word (codes "read") then to_read
-    else (if bytes_eq word (codes "lift") then to_lift
-    else (if bytes_eq word (codes "run") then to_run
-    else (if bytes_eq word (codes "make") then to_make else unknown))))
+abbrev pub same_action : Action → Action → Bool
+same_action act.Check act.Check = true
+same_action act.Read act.Read = true
+same_action act.Lift act.Lift = true
+same_action act.Run act.Run = true
+same_action act.Make act.Make = true
+same_action _ _ = false
 
 -- the parts of a command line: the positional word, the values of the two options, and the flag
 pub data Part : Type 0 where
@@ -79,21 +81,13 @@ pub data Choice : Type 0 where
   for_size : Choice
   for_record : Choice
 
--- what an option is: its part and its name; the numbers that its value may be, where it has a value; the actions with which
+-- what an option is: its part and its name; the numbers that its value may be, where it has a value; the action with which
 -- it stands
 pub record Row : Type 0 where
   pub part : Part
   pub name : Bytes
   pub values : Option Values
-  pub stands_with : Action → Bool
-
-abbrev pub with_run : Action → Bool
-with_run to_run = true
-with_run _ = false
-
-abbrev pub with_make : Action → Bool
-with_make to_make = true
-with_make _ = false
+  pub stands_with : Action
 
 abbrev pub workers_values : Values
 workers_values = record { least = 1; most = 64; usual = 2 }
@@ -103,9 +97,9 @@ size_values = record { least = 1; most = 14; usual = 4 }
 
 -- the table of options
 abbrev pub row_of : Choice → Row
-row_of for_workers = record { part = workers; name = codes "workers"; values = Some workers_values; stands_with = with_run }
-row_of for_size = record { part = size; name = codes "size"; values = Some size_values; stands_with = with_make }
-row_of for_record = record { part = with_record; name = codes "record"; values = None; stands_with = with_run }
+row_of for_workers = record { part = workers; name = codes "workers"; values = Some workers_values; stands_with = act.Run }
+row_of for_size = record { part = size; name = codes "size"; values = Some size_values; stands_with = act.Make }
+row_of for_record = record { part = with_record; name = codes "record"; values = None; stands_with = act.Run }
 
 abbrev pub choices : List Choice
 choices = for_workers ∷ for_size ∷ for_record ∷ []
@@ -243,7 +237,7 @@ was_given for_record g = g.has_record
 -- each of these options stands with the action, or was not given
 abbrev pub each_fits : List Choice → Action → Given → Bool
 each_fits [] to g = true
-each_fits (choice ∷ rest) to g = ((row_of choice).stands_with to || not (was_given choice g)) && each_fits rest to g
+each_fits (choice ∷ rest) to g = (same_action (row_of choice).stands_with to || not (was_given choice g)) && each_fits rest to g
 
 abbrev pub fits : Action → Given → Bool
 fits to g = each_fits choices to g
@@ -256,15 +250,15 @@ make_of n = Make n
 
 -- the command of an action, with the options that stand with it
 abbrev pub command_to : Action → Given → Option Command
-command_to to_check g = Some Check
-command_to to_read g = Some Read
-command_to to_lift g = Some Lift
-command_to to_run g = option_map (run_of g.has_record) (number_or workers_values g.workers)
-command_to to_make g = option_map make_of (number_or size_values g.size)
-command_to unknown g = None
+command_to act.Check g = Some Check
+command_to act.Read g = Some Read
+command_to act.Lift g = Some Lift
+command_to act.Run g = option_map (run_of g.has_record) (number_or workers_values g.workers)
+command_to act.Make g = option_map make_of (number_or size_values g.size)
 
-abbrev pub command_for : Action → Given → Option Command
-command_for to g = if fits to g then command_to to g else None
+abbrev pub command_for : Option Action → Given → Option Command
+command_for None g = None
+command_for (Some to) g = if fits to g then command_to to g else None
 
 -- the command of what was given
 abbrev pub command_by : Given → Option Command

@@ -1,3 +1,5 @@
+//! What a command line asks for.
+
 ghost use Rattle.std.specs.Prelude.{◌≡◌, IfOk};
 ghost use Rattle.cd_command.specs.CommandLine.{command_in, IsWithin};
 

@@ -1,12 +1,15 @@
-ghost use Rattle.std.specs.Prelude.{◌≡◌, IfOk, option_map};
+//! What `clap` is told of the command line, and what it finds in the words.
+
+ghost use Rattle.std.specs.Prelude.{◌≡◌, false, IfOk, option_map};
 ghost use Rattle.clap.specs.Matches.{found_of};
 ghost use Rattle.clap.specs.Simple.{app_of};
-ghost use Rattle.clap.specs.Walk.{texts};
+ghost use Rattle.clap.specs.Walk.{rule_of, texts};
 ghost use Rattle.cd_command.specs.CommandLine.{Seen, given};
-ghost use Rattle.cd_command.specs.Line.{line};
+ghost use Rattle.cd_command.specs.Line.{line, rule_with};
 ghost use Rattle.cd_command.specs.Parses.{given_by, parsed_in, AreTexts, Finds};
 
 use crate::Words;
+use crate::options::{RECORD, Row, SIZE, WORKERS};
 use cd_base::NoMemory;
 use clap::error::ErrorKind;
 use clap::{Arg, ArgAction, ArgMatches};
@@ -53,9 +56,9 @@ fn entries_of<'a>(matches: &ArgMatches<'a>) -> Option<Entries<'a>>
 {
     Some(Entries {
         action: matches.get_str("action")?,
-        workers: matches.get_str("workers"),
-        size: matches.get_str("size"),
-        with_record: matches.get_flag("record"),
+        workers: matches.get_str(WORKERS.name),
+        size: matches.get_str(SIZE.name),
+        with_record: matches.get_flag(RECORD.name),
     })
 }
 
@@ -63,21 +66,26 @@ fn entries_of<'a>(matches: &ArgMatches<'a>) -> Option<Entries<'a>>
 fn line<'a>(alloc: Global) -> Result<clap::Command<'a>, AllocError>
     ensures { IfOk result (λ command. app_of command ≡ line) }
 {
-    let workers = Arg::new(alloc, "workers")
-        .long("workers")
-        .action(ArgAction::Set);
-    let size = Arg::new(alloc, "size").long("size").action(ArgAction::Set);
-    let with_record = Arg::new(alloc, "record")
-        .long("record")
-        .action(ArgAction::SetTrue);
     let action = Arg::new(alloc, "action")
         .required(true)
         .action(ArgAction::Set);
     clap::Command::new(alloc, "cd")
         .no_binary_name(true)
         .disable_help_flag(true)
-        .arg(workers)?
-        .arg(size)?
-        .arg(with_record)?
+        .arg(argument(alloc, WORKERS))?
+        .arg(argument(alloc, SIZE))?
+        .arg(argument(alloc, RECORD))?
         .arg(action)
+}
+
+/// An option as `clap` is told of it.
+fn argument<'a>(alloc: Global, row: Row) -> Arg<'a>
+    ensures rule { rule_of result ≡ rule_with row.name.now row.values }
+    ensures local { result.global ≡ false }
+{
+    let way = match row.values {
+        Some(_) => ArgAction::Set,
+        None => ArgAction::SetTrue,
+    };
+    Arg::new(alloc, row.name).long(row.name).action(way)
 }

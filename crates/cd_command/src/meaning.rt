@@ -1,81 +1,76 @@
-ghost use Rattle.std.specs.Prelude.{◌≡◌, ◌||◌, ◌&&◌, not, true, is_some, Some, None, if◌then◌else◌};
-ghost use Rattle.cd_command.specs.CommandLine.{command_by, command_for, to_check, to_run, to_make, fits, IsWithin};
+//! The command of what the words give: the action of the positional word, with the options that stand with it.
+
+ghost use Rattle.std.specs.Prelude.{◌≡◌, ◌||◌, not, option_map, option_and_then};
+ghost use Rattle.cd_command.specs.CommandLine.{action_of, same_action, fits, number_or, command_to, command_by, IsWithin};
 ghost use Rattle.cd_command.specs.Parses.{given_by};
 
 use crate::Command;
 use crate::line::Entries;
-use crate::value::{Values, number_or};
-
-// The workers of a run, and the size of a generated document.
-const WORKERS: Values = Values {
-    least: 1,
-    most: 64,
-    usual: 2,
-};
-
-const SIZE: Values = Values {
-    least: 1,
-    most: 14,
-    usual: 4,
-};
+use crate::options::{Action, RECORD, Row, SIZE, WORKERS};
+use crate::value::number_or;
 
 /// The command of what the words give, or none.
 pub(crate) fn command_by(found: &Entries<'_>) -> Option<Command>
     ensures exact { result ≡ command_by (given_by found.now) }
     ensures range { IsWithin result }
 {
-    match found.action {
-        "check" => alone(found, Command::Check),
-        "read" => alone(found, Command::Read),
-        "lift" => alone(found, Command::Lift),
-        "run" => run_by(found),
-        "make" => make_by(found),
+    let action = action_of(found.action)?;
+    if !fits(action, found) {
+        return None;
+    }
+    command_to(action, found)
+}
+
+fn action_of(word: &str) -> Option<Action>
+    ensures { result ≡ action_of word.now }
+{
+    match word {
+        "check" => Some(Action::Check),
+        "read" => Some(Action::Read),
+        "lift" => Some(Action::Lift),
+        "run" => Some(Action::Run),
+        "make" => Some(Action::Make),
         _ => None,
     }
 }
 
-/// Whether no option was given but those that may be.
-fn stand(found: &Entries<'_>, workers: bool, size: bool, with_record: bool) -> bool
-    ensures { result ≡ ((workers || not (is_some (given_by found.now).workers)) && ((size || not (is_some (given_by found.now).size)) && ((with_record || not (given_by found.now).has_record) && true))) }
+/// Whether each option stands with the action, or was not given.
+fn fits(action: Action, found: &Entries<'_>) -> bool
+    ensures { result ≡ fits action (given_by found.now) }
 {
-    (workers || found.workers.is_none())
-        && (size || found.size.is_none())
-        && (with_record || !found.with_record)
+    stands(WORKERS, action, found.workers.is_some())
+        && stands(SIZE, action, found.size.is_some())
+        && stands(RECORD, action, found.with_record)
 }
 
-/// A command with which no option stands.
-fn alone(found: &Entries<'_>, command: Command) -> Option<Command>
-    ensures { result ≡ (if fits to_check (given_by found.now) then Some command else None) }
+fn stands(row: Row, action: Action, given: bool) -> bool
+    ensures { result ≡ (same_action row.stands_with action || not given) }
 {
-    if stand(found, false, false, false) {
-        Some(command)
-    } else {
-        None
-    }
+    row.stands_with.is(action) || !given
 }
 
-fn run_by(found: &Entries<'_>) -> Option<Command>
-    ensures exact { result ≡ command_for to_run (given_by found.now) }
+/// The command of an action, with the options that stand with it.
+fn command_to(action: Action, found: &Entries<'_>) -> Option<Command>
+    ensures exact { result ≡ command_to action (given_by found.now) }
     ensures range { IsWithin result }
 {
-    if !stand(found, true, false, true) {
-        return None;
+    match action {
+        Action::Check => Some(Command::Check),
+        Action::Read => Some(Command::Read),
+        Action::Lift => Some(Command::Lift),
+        Action::Run => Some(Command::Run {
+            workers: number_for(WORKERS, found.workers)?,
+            with_record: found.with_record,
+        }),
+        Action::Make => Some(Command::Make {
+            size: number_for(SIZE, found.size)?,
+        }),
     }
-    let workers = number_or(WORKERS, found.workers)?;
-    let with_record = found.with_record;
-    Some(Command::Run {
-        workers,
-        with_record,
-    })
 }
 
-fn make_by(found: &Entries<'_>) -> Option<Command>
-    ensures exact { result ≡ command_for to_make (given_by found.now) }
-    ensures range { IsWithin result }
+/// The number of an option that takes a value.
+fn number_for(row: Row, entry: Option<&str>) -> Option<u32>
+    ensures { result ≡ option_and_then (λ values. number_or values (option_map (λ s. s.now) entry.entry)) row.values }
 {
-    if !stand(found, false, true, false) {
-        return None;
-    }
-    let size = number_or(SIZE, found.size)?;
-    Some(Command::Make { size })
+    number_or(row.values?, entry)
 }

@@ -1,3 +1,5 @@
+//! Command lines and the commands that they give.
+
 ghost use Rattle.std.specs.Prelude.{◌≤◌};
 
 use crate::{Command, Words, command_of};
@@ -5,15 +7,19 @@ use cd_base::{NoMemory, Text};
 use std::alloc::Global;
 use std::test::Fail;
 
-fn run(workers: u32, with_record: bool) -> Option<Command> {
-    Some(Command::Run {
-        workers,
-        with_record,
-    })
+macro_rules! run {
+    ($workers:literal, $with_record:literal) => {
+        Command::Run {
+            workers: $workers,
+            with_record: $with_record,
+        }
+    };
 }
 
-fn make(size: u32) -> Option<Command> {
-    Some(Command::Make { size })
+macro_rules! make {
+    ($size:literal) => {
+        Command::Make { size: $size }
+    };
 }
 
 /// The words of a line, with one space between each two of them.
@@ -25,46 +31,56 @@ fn words_of(alloc: Global, line: &str) -> Result<Words, NoMemory> {
     Ok(words)
 }
 
-/// Lines with the commands that they give.
-fn commands() -> [(&'static str, Option<Command>); 35] {
-    [
-        ("check", Some(Command::Check)),
-        ("read", Some(Command::Read)),
-        ("lift", Some(Command::Lift)),
-        ("run", run(2, false)),
-        ("make", make(4)),
-        ("run --workers 8", run(8, false)),
-        ("--workers 8 run", run(8, false)),
-        ("run --workers=8", run(8, false)),
-        ("--workers=8 run", run(8, false)),
-        ("run --workers 008", run(8, false)),
-        ("run --workers 1", run(1, false)),
-        ("run --workers 001", run(1, false)),
-        ("run --workers 64", run(64, false)),
-        ("run --workers=064", run(64, false)),
-        ("run --workers=2", run(2, false)),
-        ("run --record", run(2, true)),
-        ("--record run", run(2, true)),
-        ("--record --workers 3 run", run(3, true)),
-        ("--workers 3 --record run", run(3, true)),
-        ("--workers 3 run --record", run(3, true)),
-        ("run --record --workers=63", run(63, true)),
-        ("make --size 1", make(1)),
-        ("make --size 14", make(14)),
-        ("make --size=014", make(14)),
-        ("make --size=4", make(4)),
-        ("--size 9 make", make(9)),
-        ("--size=9 make", make(9)),
-        ("-- check", Some(Command::Check)),
-        ("-- run", run(2, false)),
-        ("run --", run(2, false)),
-        ("--record -- run", run(2, true)),
-        ("--workers 5 -- run", run(5, false)),
-        ("--workers=5 run --", run(5, false)),
-        ("--size 5 -- make", make(5)),
-        ("-- lift", Some(Command::Lift)),
-    ]
-}
+/// Commands, each with lines that give it.
+static COMMANDS: [(Command, &[&str]); 16] = [
+    (Command::Check, &["check", "-- check"]),
+    (Command::Read, &["read"]),
+    (Command::Lift, &["lift", "-- lift"]),
+    (
+        run!(2, false),
+        &["run", "run --workers=2", "-- run", "run --"],
+    ),
+    (
+        run!(8, false),
+        &[
+            "run --workers 8",
+            "--workers 8 run",
+            "run --workers=8",
+            "--workers=8 run",
+            "run --workers 008",
+        ],
+    ),
+    (run!(1, false), &["run --workers 1", "run --workers 001"]),
+    (run!(64, false), &["run --workers 64", "run --workers=064"]),
+    (
+        run!(5, false),
+        &["--workers 5 -- run", "--workers=5 run --"],
+    ),
+    (
+        run!(2, true),
+        &["run --record", "--record run", "--record -- run"],
+    ),
+    (
+        run!(3, true),
+        &[
+            "--record --workers 3 run",
+            "--workers 3 --record run",
+            "--workers 3 run --record",
+        ],
+    ),
+    (run!(63, true), &["run --record --workers=63"]),
+    (make!(1), &["make --size 1"]),
+    (make!(4), &["make", "make --size=4"]),
+    (make!(5), &["--size 5 -- make"]),
+    (
+        make!(9),
+        &["--size 9 make", "--size=9 make", "make --size 9"],
+    ),
+    (
+        make!(14),
+        &["make --size 14", "make --size=014", "--size 14 -- make"],
+    ),
+];
 
 /// Lines that give no command.
 static NO_COMMANDS: [&str; 79] = [
@@ -149,24 +165,35 @@ static NO_COMMANDS: [&str; 79] = [
     "lift --size=4",
 ];
 
+/// Fails, and names the line, unless its words give this command.
+fn gives(alloc: Global, line: &str, wanted: Option<Command>) -> Result<(), Fail> {
+    let words = words_of(alloc, line)?;
+    let found = command_of(alloc, &words)?;
+    if found == wanted {
+        return Ok(());
+    }
+    Err(Fail::new(format_args!("{found:?} in place of {wanted:?}: {line}")))
+}
+
+/// Fails unless each of these lines gives this command.
+fn all_give(alloc: Global, lines: &[&str], wanted: Option<Command>) -> Result<(), Fail> {
+    for line in lines {
+        gives(alloc, line, wanted)?;
+    }
+    Ok(())
+}
+
 #[test]
 fn each_line_gives_its_command(rt: HostRuntime) -> Result<(), Fail> {
-    let alloc = rt.alloc();
-    for (line, command) in commands() {
-        let words = words_of(alloc, line)?;
-        assert_eq!(rt; command_of(alloc, &words)?, command, "at {line}");
+    for (command, lines) in &COMMANDS {
+        all_give(rt.alloc(), lines, Some(*command))?;
     }
     Ok(())
 }
 
 #[test]
 fn other_lines_give_none(rt: HostRuntime) -> Result<(), Fail> {
-    let alloc = rt.alloc();
-    for line in NO_COMMANDS {
-        let words = words_of(alloc, line)?;
-        assert_eq!(rt; command_of(alloc, &words)?, None, "at {line}");
-    }
-    Ok(())
+    all_give(rt.alloc(), &NO_COMMANDS, None)
 }
 
 #[test]

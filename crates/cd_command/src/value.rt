@@ -1,3 +1,5 @@
+//! The numbers that are values of options.
+
 ghost use Rattle.std.specs.Prelude.{◌≡◌, true, option_map};
 ghost use Rattle.std.specs.List.{list_all};
 ghost use Rattle.cd_command.specs.CommandLine.{number_or, number_in, within, is_digit, is_value, number_behind};

@@ -7,6 +7,7 @@ use Rattle.std.proofs.lemmas.List.Elements.{All-contains}
 use Rattle.cd_base.specs.declared.place.Place.{Place}
 use Rattle.cd_base.specs.declared.place.Range.{Range}
 use Rattle.cd_base.specs.Words.{Words, in_range}
+use Rattle.cd_base.proofs.ListLemmas.{some_of, some_and}
 use Rattle.cd_tree.specs.declared.domain.NodeId.{NodeId}
 use Rattle.cd_tree.specs.declared.domain.Item.{Item}
 use Rattle.cd_tree.specs.declared.domain.Item.TheVariants.{Run, Group}
@@ -18,18 +19,20 @@ use Rattle.cd_tree.specs.Domains.{Node, body_of, body_by, members_by, node_of}
 use Rattle.cd_tree.specs.FirstItems.{first_items, waiting_words}
 use Rattle.cd_tree.specs.Groups.{HasMember, StandsAt, StandsIn}
 use Rattle.cd_tree.specs.Legal.{entry_at}
-use Rattle.cd_tree.specs.Locality.{SameWords, BodyLeavesOthers}
+use Rattle.cd_tree.specs.Locality.{SameWords}
 use Rattle.cd_tree.specs.Meaning.{body_writes, member_writes}
-use Rattle.cd_tree.specs.SliceLaws.{ChildrenStandOnce, MembersAreChildren}
-use Rattle.cd_tree.specs.Laws.{NestedViewFollows, ParentsComeFirst, PathsGoDown}
 use Rattle.cd_cover.specs.Links.{has_member, written_before, link_of, holds_range}
-use Rattle.cd_cover.specs.Laws.{HoldsLink, LinksLead}
+use Rattle.cd_cover.specs.Laws.{HoldsLink}
 use Rattle.cd_cover.specs.Outer.{outer_references}
 use Rattle.cd_cover.specs.Plans.{PlanModel, IsPlan}
-use Rattle.cd_cover.specs.OuterLaws.{IsChild, LinksTo, OuterAreFresh, OuterOfMembers}
+use Rattle.cd_cover.specs.OuterLaws.{IsChild, LinksTo}
 use Rattle.cd_cover.specs.KeptWords.{WrittenByFirstItems, OuterWordsStay, AgreeWithLinks, AgreeWithEntries, LinksServeMembers}
-use Rattle.cd_cover.proofs.Views.{some_of, some_and, has_member-members_by}
+use Rattle.cd_cover.proofs.Views.{has_member-members_by}
 use Rattle.cd_cover.proofs.Downward.{Known, known_of, domain_behind, same_id, contains_first, contains_behind, contains_cases, contains_none}
+use Rattle.cd_cover.proofs.Grounds.{leaves, once, children}
+use Rattle.cd_cover.proofs.LinkLemmas.{links_lead}
+use Rattle.cd_cover.proofs.OuterMembers.{outer_of_members}
+use Rattle.cd_cover.proofs.Fresh.{outer_are_fresh}
 
 -- ---- the items before a group
 
@@ -116,9 +119,9 @@ stands_in domains parent id above here j ids group among =
     (some_and (slice_get above.items j) (λ item. HasMember item among.0 id) (Group ids) group
     (slice_get-get_or ids among.0 id among.1 ∙ ap Some among.2))
 
-pub written_by_first_items : NestedViewFollows → ParentsComeFirst → PathsGoDown → ChildrenStandOnce → WrittenByFirstItems
-written_by_first_items views parents paths once tree is parent id at above found stands p =
-    let all : Known tree.domains = known_of views parents paths tree is in
+pub written_by_first_items : WrittenByFirstItems
+written_by_first_items tree is parent id at above found stands p =
+    let all : Known tree.domains = known_of tree is in
     let top = domain_behind tree.domains parent above found in
     let here = some_of (slice_get tree.domains parent.0) (λ (d : Domain). StandsAt d.items id at.item at.member) stands in
     let same : here.0 ≡ top.0 = same_domain (slice_get tree.domains parent.0) here.0 top.0 here.1 top.1 in
@@ -137,11 +140,11 @@ written_by_first_items views parents paths once tree is parent id at above found
 
 -- ---- words
 
-pub outer_words_stay : OuterAreFresh → WrittenByFirstItems → BodyLeavesOthers → MembersAreChildren → OuterWordsStay
-outer_words_stay fresh written leaves children plan is parent id at above d found_above found stands reference entry among here begun p inside =
+pub outer_words_stay : OuterWordsStay
+outer_words_stay plan is parent id at above d found_above found stands reference entry among here begun p inside =
     leaves (first_items at.item (body_of above)) begun p
-    (sym (written plan.tree is.program parent id at above found_above stands p)
-    ∙ fresh plan is parent id above d found_above found (children plan.tree is.program parent id at stands).1 reference entry among here p
+    (sym (written_by_first_items plan.tree is.program parent id at above found_above stands p)
+    ∙ outer_are_fresh plan is parent id above d found_above found (children plan.tree is.program parent id at stands).1 reference entry among here p
     inside)
 
 -- a place of a range is one of each range that holds it
@@ -161,22 +164,22 @@ in_holder outer r p holds inside =
     (lt-ltb p.index outer.high (omega arith)))
 
 -- what a domain began with agrees with what the link of a member's outer reference keeps
-began_with : OuterOfMembers → LinksLead → MembersAreChildren → (plan : PlanModel) → IsPlan plan → (parent id : NodeId) (at : GroupPlace) (above d : Node)
+began_with : (plan : PlanModel) → IsPlan plan → (parent id : NodeId) (at : GroupPlace) (above d : Node)
     → node_of plan.tree.domains parent ≡ Some above → node_of plan.tree.domains id ≡ Some d → StandsIn plan.tree.domains parent id at
     → (kept : NodeId × ℕ → Words) (begun : Words)
     → AgreeWithLinks plan.tree.domains above kept begun → AgreeWithEntries plan.tree.domains parent kept begun
     → AgreeWithLinks plan.tree.domains d kept begun
-began_with members leads children plan is parent id at above d found_above found stands kept begun links entries reference entry among here =
+began_with plan is parent id at above d found_above found stands kept begun links entries reference entry among here =
     let domains : List Domain = plan.tree.domains in
     let child : IsChild domains parent id = (children plan.tree is.program parent id at stands).1 in
     let where_ : LinksTo domains parent reference ⊎ Contains (outer_references above) reference =
     All-contains (λ x. LinksTo domains parent x ⊎ Contains (outer_references above) x) (outer_references d) reference
-    (members plan is parent id above d found_above found child) among in
+    (outer_of_members plan is parent id above d found_above found child) among in
     elim where_ [
       | inr higher ↦ links reference entry higher here
       | inl own ↦
           let link = some_of (link_of domains reference.0 reference.1) (λ l. l.0 ≡ parent) own in
-          let to = leads plan.tree is.program reference.0 link.0.0 reference.1 link.0.1 entry here link.1 in
+          let to = links_lead plan.tree is.program reference.0 link.0.0 reference.1 link.0.1 entry here link.1 in
           let holder = some_of (entry_at domains link.0.0 link.0.1) (HoldsLink entry.range) to.2 in
           let at_parent : entry_at domains parent link.0.1 ≡ Some holder.0 =
           ap (λ (i : NodeId). entry_at domains i link.0.1) (sym link.2) ∙ holder.1 in
@@ -186,11 +189,11 @@ began_with members leads children plan is parent id at above d found_above found
           ∙ ap (λ (i : NodeId). kept (i, link.0.1) p) (sym link.2))
     ]
 
-pub links_serve_members : OuterOfMembers → LinksLead → MembersAreChildren → OuterWordsStay → LinksServeMembers
-links_serve_members members leads children stay plan is parent id at above d found_above found stands kept begun links entries reference entry among here =
+pub links_serve_members : LinksServeMembers
+links_serve_members plan is parent id at above d found_above found stands kept begun links entries reference entry among here =
     let domains : List Domain = plan.tree.domains in
     let link = some_of (link_of domains reference.0 reference.1) (λ l. SameWords (in_range entry.range) begun (kept l))
-    (began_with members leads children plan is parent id at above d found_above found stands kept begun links entries reference entry among here) in
+    (began_with plan is parent id at above d found_above found stands kept begun links entries reference entry among here) in
     some_and (link_of domains reference.0 reference.1) (λ l. SameWords (in_range entry.range) (waiting_words above at.item begun) (kept l)) link.0
     link.1
-    (λ p inside. stay plan is parent id at above d found_above found stands reference entry among here begun p inside ∙ link.2 p inside)
+    (λ p inside. outer_words_stay plan is parent id at above d found_above found stands reference entry among here begun p inside ∙ link.2 p inside)

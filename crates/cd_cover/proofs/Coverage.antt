@@ -5,6 +5,8 @@ use Rattle.cd_base.specs.declared.place.Place.{Place}
 use Rattle.cd_base.specs.declared.place.Range.{Range}
 use Rattle.cd_base.specs.Words.{in_range, in_ranges}
 use Rattle.cd_base.specs.Places.{IsLeast, in_second_alone}
+use Rattle.cd_base.proofs.ListLemmas.{some_of, some_and}
+use Rattle.cd_base.proofs.LeastLemmas.{IsLeast-of}
 use Rattle.cd_tree.specs.declared.domain.NodeId.{NodeId}
 use Rattle.cd_tree.specs.declared.domain.Entry.{Entry}
 use Rattle.cd_tree.specs.declared.domain.Domain.{Domain}
@@ -14,11 +16,11 @@ use Rattle.cd_tree.specs.Domains.{Node, Body, node, number_of, body_by, node_of}
 use Rattle.cd_tree.specs.Meaning.{in_entries, body_reads, body_writes, node_reach, uncovered}
 use Rattle.cd_tree.specs.Laws.{NestedViewFollows}
 use Rattle.cd_tree.specs.declared.refusal.Refusal.TheVariants.{Uncovered}
+use Rattle.cd_tree.proofs.View.{domain_here}
 use Rattle.cd_foot.specs.declared.footprints.Foot.{Foot}
 use Rattle.cd_foot.specs.Feet.{AreFeet}
 use Rattle.cd_cover.specs.Checks.{CoverageOf}
-use Rattle.cd_cover.proofs.LeastLemmas.{least_same}
-use Rattle.cd_cover.proofs.Views.{some_of, some_and, domain_here, view_number}
+use Rattle.cd_cover.proofs.Views.{view_number}
 
 abbrev range_of : Entry → Range
 range_of entry = entry.range
@@ -72,7 +74,7 @@ least_uncovered tree is views feet are id domain there entries same ranges rs se
     ap (λ (xs : List Range). in_ranges xs q) print.2
     ∙ (are.each id view print.0 (views tree is id domain there) print.1).reach q in
     some_and (node_of tree.domains id) (λ d. IsLeast (uncovered d) found) view (views tree is id domain there)
-    (least_same (in_second_alone set reach) (uncovered view) found
+    (IsLeast-of (in_second_alone set reach) (uncovered view) found
     (λ q.
     ap (λ b. b && not (in_ranges set q)) (reached q)
     ∙ ap (λ b. node_reach view q && not b) (inside q)

@@ -1,9 +1,10 @@
 -- What the laws of a tree say of one program, an induction from its last domain down to its first, and its subtrees.
-use Rattle.std.proofs.Common.{◌≡◌, ◌⊎◌, inl, inr, ℕ, zero, suc, ◌+◌, ◌<◌, ◌≤◌, List, [], ◌∷◌, ◌++◌, Option, Some, length, slice_get, refl, sym, ap, ◌∙◌, subst, arith}
+use Rattle.std.proofs.Common.{◌≡◌, ◌⊎◌, inl, inr, ℕ, zero, suc, ◌-◌, ◌<◌, List, [], ◌∷◌, ◌++◌, Option, Some, length, slice_get, refl, sym, ap, ◌∙◌, subst, arith}
 use Rattle.std.specs.Option.{option_map_or}
 use Rattle.std.specs.List.{Contains}
 use Rattle.std.proofs.lemmas.Option.{slice_get_within}
 use Rattle.std.proofs.lemmas.List.Elements.{Contains-append_left, Contains-append_right, Contains-append_cases}
+use Rattle.cd_base.proofs.ListLemmas.{some_of}
 use Rattle.cd_tree.specs.declared.domain.NodeId.{NodeId}
 use Rattle.cd_tree.specs.declared.domain.Item.{Item}
 use Rattle.cd_tree.specs.declared.domain.Item.TheVariants.{Run, Group}
@@ -11,8 +12,8 @@ use Rattle.cd_tree.specs.declared.domain.Domain.{Domain}
 use Rattle.cd_tree.specs.TreeModel.{TreeModel, IsTree, FitsItems, NamesChildren}
 use Rattle.cd_tree.specs.Domains.{Node, Members, node, put_first, members_by, body_by, nodes_from, node_of, node_numbers, body_numbers, member_numbers}
 use Rattle.cd_tree.specs.Scripts.{path_of}
-use Rattle.cd_tree.specs.Laws.{NestedViewFollows, ParentsComeFirst, PathsGoDown}
-use Rattle.cd_cover.proofs.Views.{some_of, domain_here, length-nodes_from, tree_fits}
+use Rattle.cd_tree.proofs.View.{domain_fits, length-nodes_from, domain_here}
+use Rattle.cd_cover.proofs.Grounds.{views, parents, paths}
 
 -- the view of a domain of a list
 abbrev pub view_in : List Domain → NodeId → Domain → Node
@@ -27,11 +28,11 @@ pub record Known (domains : List Domain) : Type 0 where
       (id : NodeId) (domain : Domain) → slice_get domains id.0 ≡ Some domain
       → path_of domains id ≡ option_map_or (path_of domains) domain.parent [] ++ id ∷ []
 
-pub known_of : NestedViewFollows → ParentsComeFirst → PathsGoDown → (tree : TreeModel) → IsTree tree → Known tree.domains
-known_of views parents paths tree is =
+pub known_of : (tree : TreeModel) → IsTree tree → Known tree.domains
+known_of tree is =
     record {
       view = views tree is;
-      fits = λ id domain there. (tree_fits tree is id domain there).items;
+      fits = λ id domain there. (domain_fits tree is id domain there).items;
       before = parents tree is;
       path = paths tree is;
     }
@@ -54,37 +55,35 @@ domain_behind domains id d found =
           same,
     )
 
--- what holds of a domain where it holds of all behind it holds of each
-downward_for : (n : ℕ) (domains : List Domain) (P : NodeId → Domain → Type 0)
-    → ((id : NodeId) (domain : Domain) → slice_get domains id.0 ≡ Some domain
-    → ((later : NodeId) (other : Domain) → id.0 < later.0 → slice_get domains later.0 ≡ Some other → P later other) → P id domain)
-    → (id : NodeId) (domain : Domain) → slice_get domains id.0 ≡ Some domain → length domains ≤ id.0 + n → P id domain
-downward_for zero domains P step id domain there long =
-    let within : id.0 < length domains = slice_get_within domains id.0 domain there in
-    absurd (omega arith)
-downward_for (suc n) domains P step id domain there long =
-    step id domain there (λ later other before found. downward_for n domains P step later other found (omega arith))
+-- what holds of a domain where it holds of those with a smaller measure
+abbrev pub Steps : List Domain → (ℕ → ℕ) → (NodeId → Domain → Type 0) → Type 0
+Steps domains m P =
+    (id : NodeId) (domain : Domain) → slice_get domains id.0 ≡ Some domain
+    → ((next : NodeId) (other : Domain) → m next.0 < m id.0 → slice_get domains next.0 ≡ Some other → P next other) → P id domain
 
+-- holds of each
+by_measure : (n : ℕ) (domains : List Domain) (m : ℕ → ℕ) (P : NodeId → Domain → Type 0) → Steps domains m P
+    → (id : NodeId) (domain : Domain) → slice_get domains id.0 ≡ Some domain → m id.0 < n → P id domain
+by_measure zero domains m P step id domain there below = absurd (omega arith)
+by_measure (suc n) domains m P step id domain there below =
+    step id domain there (λ next other less found. by_measure n domains m P step next other found (omega arith))
+
+-- from the last domain down: of a domain where it holds of all after it
 pub downward : (domains : List Domain) (P : NodeId → Domain → Type 0)
     → ((id : NodeId) (domain : Domain) → slice_get domains id.0 ≡ Some domain
     → ((later : NodeId) (other : Domain) → id.0 < later.0 → slice_get domains later.0 ≡ Some other → P later other) → P id domain)
     → (id : NodeId) (domain : Domain) → slice_get domains id.0 ≡ Some domain → P id domain
-downward domains P step id domain there = downward_for (length domains) domains P step id domain there (omega arith)
+downward domains P step id domain there =
+    by_measure (suc (length domains - id.0)) domains (λ k. length domains - k) P
+    (λ here above found rest.
+    step here above found (λ later other before is.
+    rest later other (let within : later.0 < length domains = slice_get_within domains later.0 other is in omega arith) is))
+    id domain there (omega arith)
 
--- and the other way, from parents to their children
-upward_for : (n : ℕ) (domains : List Domain) (P : NodeId → Domain → Type 0)
-    → ((id : NodeId) (domain : Domain) → slice_get domains id.0 ≡ Some domain
-    → ((earlier : NodeId) (other : Domain) → earlier.0 < id.0 → slice_get domains earlier.0 ≡ Some other → P earlier other) → P id domain)
-    → (id : NodeId) (domain : Domain) → slice_get domains id.0 ≡ Some domain → id.0 < n → P id domain
-upward_for zero domains P step id domain there below = absurd (omega arith)
-upward_for (suc n) domains P step id domain there below =
-    step id domain there (λ earlier other before found. upward_for n domains P step earlier other found (omega arith))
-
-pub upward : (domains : List Domain) (P : NodeId → Domain → Type 0)
-    → ((id : NodeId) (domain : Domain) → slice_get domains id.0 ≡ Some domain
-    → ((earlier : NodeId) (other : Domain) → earlier.0 < id.0 → slice_get domains earlier.0 ≡ Some other → P earlier other) → P id domain)
+-- and from parents to their children: of a domain where it holds of all before it
+pub upward : (domains : List Domain) (P : NodeId → Domain → Type 0) → Steps domains (λ k. k) P
     → (id : NodeId) (domain : Domain) → slice_get domains id.0 ≡ Some domain → P id domain
-upward domains P step id domain there = upward_for (suc id.0) domains P step id domain there (omega arith)
+upward domains P step id domain there = by_measure (suc id.0) domains (λ k. k) P step id domain there (omega arith)
 
 -- two numbers of domains are one where the numbers in them are
 pub same_id : (one other : NodeId) → one.0 ≡ other.0 → one ≡ other

@@ -4,14 +4,16 @@ use Rattle.cd_base.specs.declared.place.Place.{Place}
 use Rattle.cd_base.specs.declared.place.Range.{Range}
 use Rattle.cd_base.specs.Words.{in_range, in_ranges}
 use Rattle.cd_base.specs.Places.{IsLeast}
+use Rattle.cd_base.proofs.ListLemmas.{some_of, some_and}
+use Rattle.cd_base.proofs.LeastLemmas.{IsLeast-of}
 use Rattle.cd_tree.specs.declared.domain.NodeId.{NodeId}
 use Rattle.cd_tree.specs.TreeModel.{TreeModel, IsTree}
 use Rattle.cd_tree.specs.Domains.{node_of, number_of}
 use Rattle.cd_tree.specs.Meaning.{node_writes}
+use Rattle.cd_tree.proofs.View.{domain_here}
 use Rattle.cd_foot.specs.declared.footprints.Foot.{Foot}
 use Rattle.cd_foot.specs.Feet.{AreFeet}
-use Rattle.cd_cover.proofs.LeastLemmas.{least_same}
-use Rattle.cd_cover.proofs.Views.{some_of, some_and, domain_here, view_number}
+use Rattle.cd_cover.proofs.Views.{view_number}
 
 and-swap : (a b : Bool) → (a && b) ≡ (b && a)
 and-swap true true = refl
@@ -29,7 +31,7 @@ least_written tree is feet are node within ranges r x foot least =
     let view = some_of (node_of tree.domains node) (λ d. number_of d ≡ node.0) (view_number tree.domains node domain.0 domain.1) in
     let found = some_of (slice_get feet node.0) (λ foot. ranges ≡ foot.writes) foot in
     some_and (node_of tree.domains node) (λ d. IsLeast (λ q. in_range r q && node_writes d q) x) view.0 view.1
-    (least_same (λ q. in_ranges ranges q && in_range r q) (λ q. in_range r q && node_writes view.0 q) x
+    (IsLeast-of (λ q. in_ranges ranges q && in_range r q) (λ q. in_range r q && node_writes view.0 q) x
     (λ q.
     and-swap (in_ranges ranges q) (in_range r q)
     ∙ ap (λ b. in_range r q && b)

@@ -1,7 +1,7 @@
 -- The first refusal, found one question at a time.
-use Rattle.std.proofs.Common.{◌≡◌, ℕ, suc, ◌+◌, ◌<◌, ◌≤◌, true, false, List, [], ◌∷◌, Option, None, Some, is_some, IsSomeAnd, length, get_or, drop, slice_get, refl, sym, ap, ◌∙◌, subst, inl, inr, add-one}
+use Rattle.std.proofs.Common.{◌≡◌, ℕ, suc, ◌+◌, ◌<◌, ◌≤◌, true, false, List, [], ◌∷◌, Option, None, Some, is_some, IsSomeAnd, length, get_or, drop, slice_get, refl, sym, subst, inl, inr, add-one}
 use Rattle.std.proofs.lemmas.List.{drop_more, drop_all}
-use Rattle.std.proofs.lemmas.Option.{slice_get_within, get_or_from_slice_get}
+use Rattle.cd_base.proofs.ListLemmas.{some_of, some_and, drop-found}
 use Rattle.cd_tree.specs.declared.domain.NodeId.{NodeId}
 use Rattle.cd_tree.specs.declared.domain.Entry.{Entry}
 use Rattle.cd_tree.specs.declared.domain.Domain.{Domain}
@@ -12,7 +12,6 @@ use Rattle.cd_tree.specs.Laws.{NestedViewFollows}
 use Rattle.cd_tree.specs.Refusals.{Then, FirstOf, numbered}
 use Rattle.cd_cover.specs.Links.{Frame, frames_of}
 use Rattle.cd_cover.specs.Checks.{CoverageOf, EntryOf, NumberedEntryOf, DomainOf}
-use Rattle.cd_cover.proofs.Views.{some_of, some_and}
 
 pub then_hit : (First Second : Option Refusal → Type 0) (answer : Option Refusal) → is_some answer ≡ true → First answer → Then First Second answer
 then_hit First Second None some h = absurd (cc)
@@ -76,17 +75,13 @@ pub record DomainsLeft (domains : List Domain) (left all : List Node) : Type 0 w
 pub domains_all : (domains : List Domain) (all : List Node) → DomainsLeft domains all all
 domains_all domains all = record { first = λ answer h. h }
 
-drop_some : {A : Type 0} (xs : List A) (i : ℕ) (x : A) → slice_get xs i ≡ Some x → drop i xs ≡ x ∷ drop (i + 1) xs
-drop_some xs i x there =
-    drop_more xs i x (slice_get_within xs i x there) ∙ ap (λ y. y ∷ drop (i + 1) xs) (get_or_from_slice_get xs i x x there)
-
 pub domain_hit : (domains : List Domain) (i : ℕ) (all : List Node) (answer : Option Refusal)
     → IsSomeAnd (slice_get all i) (λ d. DomainOf domains d answer) → DomainsLeft domains (drop i all) all
     → is_some answer ≡ true → FirstOf (DomainOf domains) all answer
 domain_hit domains i all answer here left some =
     let view = some_of (slice_get all i) (λ d. DomainOf domains d answer) here in
     let next : DomainsLeft domains (view.0 ∷ drop (i + 1) all) all =
-    subst (λ (ds : List Node). DomainsLeft domains ds all) (drop_some all i view.0 view.1) left in
+    subst (λ (ds : List Node). DomainsLeft domains ds all) (drop-found all i view.0 view.1) left in
     next.first answer (then_hit (DomainOf domains view.0) (FirstOf (DomainOf domains) (drop (i + 1) all)) answer some view.2)
 
 pub domain_miss : (domains : List Domain) (i : ℕ) (all : List Node) (flaw : Option Refusal)
@@ -95,7 +90,7 @@ pub domain_miss : (domains : List Domain) (i : ℕ) (all : List Node) (flaw : Op
 domain_miss domains i all flaw here left none =
     let view = some_of (slice_get all i) (λ d. DomainOf domains d flaw) here in
     let next : DomainsLeft domains (view.0 ∷ drop (i + 1) all) all =
-    subst (λ (ds : List Node). DomainsLeft domains ds all) (drop_some all i view.0 view.1) left in
+    subst (λ (ds : List Node). DomainsLeft domains ds all) (drop-found all i view.0 view.1) left in
     let clear : DomainOf domains view.0 None = subst (DomainOf domains view.0) (is_none flaw none) view.2 in
     record {
       first = λ answer h.

@@ -1,14 +1,14 @@
 -- Frames go up from a domain to its parent.
-use Rattle.std.proofs.Common.{◌≡◌, List, [], ◌∷◌, ◌++◌, Option, None, Some, reverse, slice_get, sym, ap, ◌∙◌}
+use Rattle.std.proofs.Common.{◌≡◌, List, [], ◌∷◌, ◌++◌, Option, reverse, sym, ap, ◌∙◌}
 use Rattle.std.specs.Option.{option_map_or}
 use Rattle.std.proofs.lemmas.List.{reverse-append}
 use Rattle.cd_tree.specs.declared.domain.NodeId.{NodeId}
 use Rattle.cd_tree.specs.declared.domain.Domain.{Domain}
-use Rattle.cd_tree.specs.TreeModel.{TreeModel, IsTree}
-use Rattle.cd_tree.specs.Domains.{Node, node, body_by, node_of}
+use Rattle.cd_tree.specs.Domains.{Node, node_of}
 use Rattle.cd_tree.specs.Scripts.{path_of}
-use Rattle.cd_tree.specs.Laws.{NestedViewFollows, PathsGoDown}
-use Rattle.cd_cover.specs.Links.{frame_over, put_frame, frames_over, frames_up, frames_of}
+use Rattle.cd_cover.specs.Laws.{FramesGoUp, FramesEnd}
+use Rattle.cd_cover.specs.Links.{put_frame, frames_over, frames_up, frames_of}
+use Rattle.cd_cover.proofs.Grounds.{views, paths}
 
 reverse_last : (ids : List NodeId) (id : NodeId) → reverse (ids ++ id ∷ []) ≡ id ∷ reverse ids
 reverse_last ids id = reverse-append ids (id ∷ [])
@@ -27,19 +27,15 @@ over_parent domains id parent path below here =
     ∙ ap (frames_over domains id) (reverse_last path parent)
     ∙ ap (put_frame id.0 (node_of domains parent)) (sym (over_path domains parent path here))
 
-pub frames_up_one : PathsGoDown → NestedViewFollows → (tree : TreeModel) → IsTree tree → (id parent : NodeId) (domain above : Domain)
-    → slice_get tree.domains id.0 ≡ Some domain → domain.parent ≡ Some parent → slice_get tree.domains parent.0 ≡ Some above
-    → frames_of tree.domains id
-    ≡ frame_over id.0 (node parent above (body_by (node_of tree.domains) above.items)) ∷ frames_of tree.domains parent
-frames_up_one paths views tree is id parent domain above there up here =
+pub frames_go_up : FramesGoUp
+frames_go_up tree is id parent domain above there up here =
     let path : Option NodeId → List NodeId = λ o. option_map_or (path_of tree.domains) o [] in
     let below : path_of tree.domains id ≡ path_of tree.domains parent ++ id ∷ [] =
     paths tree is id domain there ∙ ap (λ (o : Option NodeId). path o ++ id ∷ []) up in
     over_parent tree.domains id parent (path above.parent) below (paths tree is parent above here)
     ∙ ap (λ (o : Option Node). put_frame id.0 o (frames_of tree.domains parent)) (views tree is parent above here)
 
-pub frames_end : PathsGoDown → (tree : TreeModel) → IsTree tree → (id : NodeId) (domain : Domain)
-    → slice_get tree.domains id.0 ≡ Some domain → domain.parent ≡ None → frames_of tree.domains id ≡ []
-frames_end paths tree is id domain there up =
+pub frames_end : FramesEnd
+frames_end tree is id domain there up =
     let path : Option NodeId → List NodeId = λ o. option_map_or (path_of tree.domains) o [] in
     over_path tree.domains id [] (paths tree is id domain there ∙ ap (λ (o : Option NodeId). path o ++ id ∷ []) up)

@@ -12,8 +12,6 @@ use Rattle.cd_tree.specs.declared.domain.Domain.{Domain}
 use Rattle.cd_tree.specs.Domains.{Node, body_of}
 use Rattle.cd_tree.specs.Legal.{entry_at}
 use Rattle.cd_tree.specs.Scripts.{path_of}
-use Rattle.cd_tree.specs.Laws.{NestedViewFollows, ParentsComeFirst, PathsGoDown}
-use Rattle.cd_cover.specs.Laws.{FramesGoUp, FramesEnd}
 use Rattle.cd_cover.specs.Links.{Frame, frame_over, frames_of, holder, link_in, link_of, entry_link, by_holder, written_before, written_since, stale}
 use Rattle.cd_cover.specs.Outer.{outer_references}
 use Rattle.cd_cover.specs.Plans.{PlanModel, IsPlan}
@@ -23,7 +21,7 @@ use Rattle.cd_cover.proofs.PathLemmas.{path_cases, path_before, top_on_path}
 use Rattle.cd_cover.proofs.LinkLemmas.{link_by}
 use Rattle.cd_cover.proofs.OuterLemmas.{PlanFacts, plan_facts}
 use Rattle.cd_cover.proofs.OuterWhich.{reference_of}
-use Rattle.cd_cover.proofs.OuterMembers.{OuterParts, outer_parts, link_over, Family, family, view_is}
+use Rattle.cd_cover.proofs.OuterMembers.{OuterParts, outer_parts, link_over, Family, family, view_is, Kin, kin_of}
 
 and_here : (a b : Bool) → (a && b) ≡ false → a ≡ true → b ≡ false
 and_here true b is here = is
@@ -106,30 +104,27 @@ fresh_at plan is facts id up at k entry here link p inside =
     domain_of_entry None is_there = absurd (cc)
     domain_of_entry (Some domain) is_there = (domain, refl)
 
-pub fresh_on_the_way : NestedViewFollows → ParentsComeFirst → PathsGoDown → FramesGoUp → FramesEnd → FreshOnTheWay
-fresh_on_the_way views parents paths goes ends plan is id up at k entry here link parent member d found child on low p inside =
+pub fresh_on_the_way : FreshOnTheWay
+fresh_on_the_way plan is id up at k entry here link parent member d found child on low p inside =
     let domains : List Domain = plan.tree.domains in
-    let facts : PlanFacts domains plan.links = plan_facts views parents paths goes ends plan is in
+    let facts : PlanFacts domains plan.links = plan_facts plan is in
     let kin : Family domains parent member = family plan.tree is.program facts.all parent member child in
     let view : d ≡ view_in domains parent kin.over = view_is domains facts.all parent kin.over kin.over_there d found in
     ap (λ (v : Node). written_before member.0 (body_of v) p) view
     ∙ fresh_at plan is facts id up at k entry here link p inside parent member kin.over kin.domain kin.over_there kin.there kin.is_parent on low
 
-pub outer_are_fresh : NestedViewFollows → ParentsComeFirst → PathsGoDown → FramesGoUp → FramesEnd → OuterAreFresh
-outer_are_fresh views parents paths goes ends plan is parent id above d found_above found child reference entry among here p inside =
+pub outer_are_fresh : OuterAreFresh
+outer_are_fresh plan is parent id above d found_above found child reference entry among here p inside =
     let domains : List Domain = plan.tree.domains in
-    let facts : PlanFacts domains plan.links = plan_facts views parents paths goes ends plan is in
-    let kin : Family domains parent id = family plan.tree is.program facts.all parent id child in
-    let one : d ≡ view_in domains id kin.domain = view_is domains facts.all id kin.domain kin.there d found in
-    let two : above ≡ view_in domains parent kin.over = view_is domains facts.all parent kin.over kin.over_there above found_above in
-    let parts : OuterParts domains id kin.domain reference =
-    outer_parts domains plan.links facts id kin.domain kin.there reference
-    (subst (λ (v : Node). Contains (outer_references v) reference) one among) in
-    let last = facts.here id kin.domain kin.there reference.0.0 parts.within in
+    let kin : Kin plan parent id above d = kin_of plan is parent id above d found_above found child in
+    let parts : OuterParts domains id kin.family.domain reference =
+    outer_parts domains plan.links kin.facts id kin.family.domain kin.family.there reference
+    (subst (λ (v : Node). Contains (outer_references v) reference) kin.below_is among) in
+    let last = kin.facts.here id kin.family.domain kin.family.there reference.0.0 parts.within in
     let low : parts.link.0.0 ≤ parent.0 =
-    path_before domains facts.all parent kin.over kin.over_there parts.link.0
-    (link_over domains facts.all id parent kin.domain kin.there kin.is_parent parts.link.0 parts.on parts.before) in
-    ap (λ (v : Node). written_before id.0 (body_of v) p) two
-    ∙ fresh_at plan is facts reference.0 parts.link.0 reference.1 parts.link.1 entry here parts.is p inside parent id kin.over kin.domain
-    kin.over_there kin.there kin.is_parent
-    (top_on_path domains facts.all id kin.domain kin.there reference.0 last.0 last.1 parts.within) low
+    path_before domains kin.facts.all parent kin.family.over kin.family.over_there parts.link.0
+    (link_over domains kin.facts.all id parent kin.family.domain kin.family.there kin.family.is_parent parts.link.0 parts.on parts.before) in
+    ap (λ (v : Node). written_before id.0 (body_of v) p) kin.above_is
+    ∙ fresh_at plan is kin.facts reference.0 parts.link.0 reference.1 parts.link.1 entry here parts.is p inside parent id kin.family.over kin.family.domain
+    kin.family.over_there kin.family.there kin.family.is_parent
+    (top_on_path domains kin.facts.all id kin.family.domain kin.family.there reference.0 last.0 last.1 parts.within) low

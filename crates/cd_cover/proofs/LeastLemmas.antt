@@ -6,6 +6,7 @@ use Rattle.cd_base.specs.declared.place.Place.{Place}
 use Rattle.cd_base.specs.declared.place.Range.{Range}
 use Rattle.cd_base.specs.Words.{PlaceSet, in_range}
 use Rattle.cd_base.specs.Places.{IsLeast, stands_before}
+use Rattle.cd_base.proofs.LeastLemmas.{IsLeast-of}
 use Rattle.cd_cover.specs.Least.{earlier_of}
 
 -- ---- the order of places
@@ -37,10 +38,6 @@ before_trans p r q h k = order_both r.region p.region q.region r.index p.index q
 
 -- ---- least places
 
-pub least_same : (S T : PlaceSet) (a : Option Place) → ((q : Place) → S q ≡ T q) → IsLeast S a → IsLeast T a
-least_same S T None same h = λ q. sym (same q) ∙ h q
-least_same S T (Some p) same (here, least) = (sym (same p) ∙ here, λ q there. least q (same q ∙ there))
-
 earlier_some : (S T : PlaceSet) (p r : Place) → S p ≡ true → ((q : Place) → S q ≡ true → stands_before q p ≡ false)
     → T r ≡ true → ((q : Place) → T q ≡ true → stands_before q r ≡ false)
     → IsLeast (λ q. S q || T q) (if stands_before r p then Some r else Some p)
@@ -58,7 +55,7 @@ earlier_some S T p r hp lp hr lr =
 
 -- the least place of two sets together
 pub least_or : (S T : PlaceSet) (a b : Option Place) → IsLeast S a → IsLeast T b → IsLeast (λ q. S q || T q) (earlier_of a b)
-least_or S T None b h k = least_same T (λ q. S q || T q) b (λ q. rw (h q)) k
+least_or S T None b h k = IsLeast-of T (λ q. S q || T q) b (λ q. rw (h q)) k
 least_or S T (Some p) None (hp, lp) k = (
   or_left (S p) (T p) hp,
   λ q there. elim (or_cases (S q) (T q) there) [ inl s ↦ lp q s | inr t ↦ absurd (true≢false (sym t ∙ k q)) ],
@@ -113,7 +110,7 @@ leaves_less found x S less left whole so same h =
     record {
       least = λ answer k.
           subst (IsLeast whole) (sym (earlier-assoc found x answer))
-          (so.least (earlier_of x answer) (least_same (λ q. S q || less q) left (earlier_of x answer) same (least_or S less x answer h k)));
+          (so.least (earlier_of x answer) (IsLeast-of (λ q. S q || less q) left (earlier_of x answer) same (least_or S less x answer h k)));
     }
 
 pub leaves_none : (found : Option Place) (left whole : PlaceSet) → Leaves found left whole → ((q : Place) → left q ≡ false)

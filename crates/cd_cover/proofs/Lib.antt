@@ -1,6 +1,7 @@
 pub mod Worked
 mod WorkedOuter
 pub mod LeastLemmas
+pub mod Grounds
 pub mod Frames
 pub mod Views
 pub mod Feet

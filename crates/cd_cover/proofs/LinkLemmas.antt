@@ -6,6 +6,7 @@ use Rattle.std.proofs.lemmas.List.Elements.{Contains-append_left, Contains-push}
 use Rattle.std.proofs.lemmas.Bool.{cases_Bool, and_parts}
 use Rattle.std.proofs.lemmas.Option.{slice_get_within, some_pair_parts, none-some, option_and_then_some}
 use Rattle.cd_base.specs.declared.place.Range.{Range}
+use Rattle.cd_base.proofs.ListLemmas.{some_and}
 use Rattle.cd_tree.specs.declared.domain.NodeId.{NodeId}
 use Rattle.cd_tree.specs.declared.domain.How.{How}
 use Rattle.cd_tree.specs.declared.domain.How.TheVariants.{Copy, Refer, Regen}
@@ -15,10 +16,11 @@ use Rattle.cd_tree.specs.TreeModel.{TreeModel, IsTree}
 use Rattle.cd_tree.specs.Domains.{node, body_by, node_of}
 use Rattle.cd_tree.specs.Scripts.{path_of}
 use Rattle.cd_tree.specs.Legal.{entry_at}
-use Rattle.cd_tree.specs.Laws.{ParentsComeFirst, PathsGoDown}
-use Rattle.cd_cover.specs.Laws.{FramesGoUp, FramesEnd, HoldsLink, LinksLead}
+use Rattle.cd_tree.proofs.View.{domain_here}
+use Rattle.cd_cover.specs.Laws.{HoldsLink, LinksLead}
 use Rattle.cd_cover.specs.Links.{Frame, frame_over, frames_of, is_kept, holds_range, holder, by_way, link_in, entry_link}
-use Rattle.cd_cover.proofs.Views.{domain_here, some_and}
+use Rattle.cd_cover.proofs.Grounds.{parents, paths}
+use Rattle.cd_cover.proofs.Frames.{frames_go_up, frames_end}
 
 -- an entry among others that holds a range
 holder_is : (r : Range) (at : ℕ) (entries : List Entry) (k : ℕ) (entry : Entry) → holder r at entries ≡ Some (k, entry)
@@ -51,21 +53,21 @@ entry_here : (domains : List Domain) (id up : NodeId) (k : ℕ) (domain : Domain
 entry_here domains id up k domain entry there same is =
     ap (λ i. entry_at domains i k) (sym same) ∙ ap (option_and_then (λ (d : Domain). slice_get d.entries k)) there ∙ is
 
-path_below : PathsGoDown → (tree : TreeModel) → IsTree tree → (id parent : NodeId) (domain : Domain) → slice_get tree.domains id.0 ≡ Some domain
+path_below : (tree : TreeModel) → IsTree tree → (id parent : NodeId) (domain : Domain) → slice_get tree.domains id.0 ≡ Some domain
     → domain.parent ≡ Some parent → path_of tree.domains id ≡ path_of tree.domains parent ++ id ∷ []
-path_below paths tree is id parent domain there some =
+path_below tree is id parent domain there some =
     paths tree is id domain there ∙ ap (λ (o : Option NodeId). option_map_or (path_of tree.domains) o [] ++ id ∷ []) some
 
-above_itself : PathsGoDown → (tree : TreeModel) → IsTree tree → (id parent up : NodeId) (domain above : Domain)
+above_itself : (tree : TreeModel) → IsTree tree → (id parent up : NodeId) (domain above : Domain)
     → slice_get tree.domains id.0 ≡ Some domain → domain.parent ≡ Some parent → slice_get tree.domains parent.0 ≡ Some above
     → Contains (path_of tree.domains parent) up → Contains (path_of tree.domains id) up
-above_itself paths tree is id parent up domain above there some here among =
-    subst (λ (ids : List NodeId). Contains ids up) (sym (path_below paths tree is id parent domain there some))
+above_itself tree is id parent up domain above there some here among =
+    subst (λ (ids : List NodeId). Contains ids up) (sym (path_below tree is id parent domain there some))
     (Contains-append_left (path_of tree.domains parent) (id ∷ []) up among)
 
-on_its_path : PathsGoDown → (tree : TreeModel) → IsTree tree → (id : NodeId) (domain : Domain) → slice_get tree.domains id.0 ≡ Some domain
+on_its_path : (tree : TreeModel) → IsTree tree → (id : NodeId) (domain : Domain) → slice_get tree.domains id.0 ≡ Some domain
     → Contains (path_of tree.domains id) id
-on_its_path paths tree is id domain there =
+on_its_path tree is id domain there =
     subst (λ (ids : List NodeId). Contains ids id) (sym (paths tree is id domain there))
     (Contains-push (option_map_or (path_of tree.domains) domain.parent []) id)
 
@@ -82,18 +84,18 @@ leads_here tree id parent up above r k entry among before there holds same =
       some_and (entry_at tree.domains up k) (HoldsLink r) entry here (and_parts (is_kept entry.how) (holds_range entry.range r) found.3),
     )
 
-pub leads_at : FramesGoUp → FramesEnd → ParentsComeFirst → PathsGoDown → (tree : TreeModel) → IsTree tree → (n : ℕ) (id : NodeId) (domain : Domain) → id.0 < n
+pub leads_at : (tree : TreeModel) → IsTree tree → (n : ℕ) (id : NodeId) (domain : Domain) → id.0 < n
     → slice_get tree.domains id.0 ≡ Some domain → (r : Range) (up : NodeId) (k : ℕ)
     → link_in r (frames_of tree.domains id) ≡ Some (up, k) → Leads tree id r up k
-leads_at goes ends parents paths tree is zero id domain below there r up k link = absurd (omega arith)
-leads_at goes ends parents paths tree is (suc n) id domain below there r up k link =
-    by_parent (leads_at goes ends parents paths tree is n) domain.parent refl
+leads_at tree is zero id domain below there r up k link = absurd (omega arith)
+leads_at tree is (suc n) id domain below there r up k link =
+    by_parent (leads_at tree is n) domain.parent refl
   where
     by_parent : ((i : NodeId) (d : Domain) → i.0 < n → slice_get tree.domains i.0 ≡ Some d → (s : Range) (u : NodeId) (j : ℕ)
         → link_in s (frames_of tree.domains i) ≡ Some (u, j) → Leads tree i s u j)
         → (parent : Option NodeId) → domain.parent ≡ parent → Leads tree id r up k
     by_parent further None none =
-        let end : frames_of tree.domains id ≡ [] = ends tree is id domain there none in
+        let end : frames_of tree.domains id ≡ [] = frames_end tree is id domain there none in
         let nothing : None ≡ Some (up, k) = ap (link_in r) (sym end) ∙ link in
         absurd (none-some (up, k) nothing)
     by_parent further (Some parent) some =
@@ -102,14 +104,14 @@ leads_at goes ends parents paths tree is (suc n) id domain below there r up k li
         let above = domain_here tree.domains parent.0 (omega arith) in
         let frame : Frame = frame_over id.0 (node parent above.0 (body_by (node_of tree.domains) above.0.items)) in
         let next : link_in r (frame ∷ frames_of tree.domains parent) ≡ Some (up, k) =
-        ap (link_in r) (sym (goes tree is id parent domain above.0 there some above.1)) ∙ link in
+        ap (link_in r) (sym (frames_go_up tree is id parent domain above.0 there some above.1)) ∙ link in
         elim (link_by r frame (frames_of tree.domains parent) (holder r 0 frame.entries) refl up k next) [
           | inl rest ↦
               let found = further parent above.0 (omega arith) above.1 r up k rest.1 in
-              (above_itself paths tree is id parent up domain above.0 there some above.1 found.0, omega arith, found.2)
+              (above_itself tree is id parent up domain above.0 there some above.1 found.0, omega arith, found.2)
           | inr here ↦
               leads_here tree id parent up above.0 r k here.0
-              (above_itself paths tree is id parent parent domain above.0 there some above.1 (on_its_path paths tree is parent above.0 above.1))
+              (above_itself tree is id parent parent domain above.0 there some above.1 (on_its_path tree is parent above.0 above.1))
               before above.1 here.1 here.2
         ]
 
@@ -119,10 +121,10 @@ way_some Copy r frames up k link = absurd (none-some (up, k) link)
 way_some Refer r frames up k link = link
 way_some (Regen pattern) r frames up k link = absurd (none-some (up, k) link)
 
-pub links_lead : FramesGoUp → FramesEnd → ParentsComeFirst → PathsGoDown → LinksLead
-links_lead goes ends parents paths tree is id up at k entry there link =
+pub links_lead : LinksLead
+links_lead tree is id up at k entry there link =
     let found : link_in entry.range (frames_of tree.domains id) ≡ Some (up, k) =
     way_some entry.how entry.range (frames_of tree.domains id) up k
     (ap (option_and_then (entry_link (frames_of tree.domains id))) (sym there) ∙ link) in
     option_and_then_some (λ (d : Domain). slice_get d.entries at) (slice_get tree.domains id.0) entry there
-    (λ domain here rest. leads_at goes ends parents paths tree is (suc id.0) id domain (omega arith) here entry.range up k found)
+    (λ domain here rest. leads_at tree is (suc id.0) id domain (omega arith) here entry.range up k found)

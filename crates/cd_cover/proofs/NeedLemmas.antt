@@ -1,21 +1,24 @@
 -- Lemmas on needs: that they are small, and how they are summed from the last domain to the first.
-use Rattle.std.proofs.Common.{◌≡◌, ℕ, zero, suc, ◌+◌, ◌-◌, ◌*◌, ◌<◌, ◌≤◌, max, List, [], ◌∷◌, ◌++◌, Option, None, Some, IsSomeAnd, length, map, take, drop, get_or, set, slice_get, slice_index, sum_by, refl, sym, ap, ◌∙◌, subst, inl, inr, length-append, arith}
+use Rattle.std.proofs.Common.{◌≡◌, ℕ, zero, suc, ◌+◌, ◌-◌, ◌*◌, ◌^◌, ◌<◌, ◌≤◌, max, List, [], ◌∷◌, ◌++◌, Option, None, Some, IsSomeAnd, length, map, take, drop, get_or, set, All, slice_get, slice_index, sum_by, refl, sym, ap, ◌∙◌, subst, inl, inr, length-append, arith}
 use Rattle.std.proofs.lemmas.Bool.{cases_eq}
 use Rattle.std.proofs.lemmas.List.{drop_all, length-map, length-set, get_or-set_same, get_or-set_other}
 use Rattle.std.proofs.lemmas.List.Sums.{sum_by-cons}
 use Rattle.std.proofs.lemmas.Option.{slice_get_within, slice_get-get_or, slice_get-map, get_or_from_slice_get, same_Some}
 use Rattle.std.specs.Option.{option_map}
+use Rattle.cd_base.proofs.ListLemmas.{some_of, some_and}
 use Rattle.cd_tree.specs.declared.domain.NodeId.{NodeId}
 use Rattle.cd_tree.specs.declared.domain.Item.{Item}
 use Rattle.cd_tree.specs.declared.domain.Item.TheVariants.{Run, Group}
 use Rattle.cd_tree.specs.declared.domain.Domain.{Domain}
-use Rattle.cd_tree.specs.declared.operation.Op.{Op}
 use Rattle.cd_tree.specs.TreeModel.{TreeModel, IsTree, FitsItems, NamesChildren}
-use Rattle.cd_tree.specs.Domains.{Node, number_of, Body, Members, node, members_by, body_by, body_of, put_first, nodes_from, node_of, root_of, node_numbers, body_numbers, member_numbers, numbers_from}
+use Rattle.cd_tree.specs.Domains.{Node, number_of, Body, Members, node, members_by, body_by, body_of, put_first, nodes_from, node_of, root_of, node_numbers, body_numbers, member_numbers}
+use Rattle.cd_tree.specs.Limits.{domains_limit}
 use Rattle.cd_tree.specs.Meaning.{node_need, body_need, members_need}
 use Rattle.cd_tree.specs.Laws.{NestedViewFollows, NeedIsRoots}
-use Rattle.cd_cover.specs.Needs.{own_need, most_own, AreSmall, HoldsFrom}
-use Rattle.cd_cover.proofs.Views.{map_more, some_of, some_and, view_number, length-nodes_from}
+use Rattle.cd_tree.proofs.View.{length-nodes_from, members_here}
+use Rattle.cd_tree.proofs.Walk.{length-numbers_from}
+use Rattle.cd_cover.specs.Needs.{own_need, most_own, AreSmall, HoldsFrom, item_need, CanAdd}
+use Rattle.cd_cover.proofs.Views.{map_more, view_number}
 use Rattle.cd_cover.proofs.Steps.{item_at}
 
 -- ---- the blocks of each domain's own entries
@@ -89,21 +92,17 @@ views_bounded at (domain ∷ rest) small zero d is =
     subst Bounded same (omega arith)
 views_bounded at (domain ∷ rest) small (suc k) d is = views_bounded (suc at) rest (λ j x there. small (suc j) x there) k d is
 
-length-numbers_from : (at n : ℕ) → length (numbers_from at n) ≡ n
-length-numbers_from at zero = refl
-length-numbers_from at (suc n) = ap suc (length-numbers_from (suc at) n)
-
 root_bounded : (domains : List Domain) → 0 < length domains → AreSmall domains → Bounded (root_of domains)
 root_bounded [] some small = absurd (omega arith)
 root_bounded (domain ∷ rest) some small = views_bounded 0 (domain ∷ rest) small 0 (root_of (domain ∷ rest)) refl
 
 -- a whole program needs less than 2^44 blocks
-pub root_small : (tree : TreeModel) → IsTree tree → AreSmall tree.domains → node_need (root_of tree.domains) < 2048 * 4294967361
+pub root_small : (tree : TreeModel) → IsTree tree → AreSmall tree.domains → node_need (root_of tree.domains) < domains_limit * (most_own + 1)
 root_small tree is small =
     let bounded : Bounded (root_of tree.domains) = root_bounded tree.domains is.some small in
     let count : length (node_numbers (root_of tree.domains)) ≡ length tree.domains =
     ap length is.preorder ∙ length-numbers_from 0 (length tree.domains) in
-    let few : length tree.domains ≤ 2048 = is.few in
+    let few : length tree.domains ≤ domains_limit = is.few in
     let all : node_need (root_of tree.domains) ≤ length tree.domains * most_own =
     subst (λ n. node_need (root_of tree.domains) ≤ n * most_own) count bounded in
     omega arith
@@ -116,7 +115,7 @@ put_first-need None rest n is = absurd is
 put_first-need (Some d) rest n is = rw is
 
 -- members' needs, kept by their numbers
-pub members_sum : (domains : List Domain) (at : ℕ) (needs : List ℕ) (ids : List NodeId) → NamesChildren domains at ids
+members_sum : (domains : List Domain) (at : ℕ) (needs : List ℕ) (ids : List NodeId) → NamesChildren domains at ids
     → HoldsFrom domains (at + 1) needs
     → sum_by (λ (id : NodeId). slice_index needs id.0) ids ≡ members_need (members_by (node_of domains) ids)
 members_sum domains at needs [] named holds = refl
@@ -139,41 +138,49 @@ pub record GroupsLeft (domains : List Domain) (at so : ℕ) (items all : List It
 pub groups_all : (domains : List Domain) (at : ℕ) (all : List Item) → FitsItems domains at all → GroupsLeft domains at 0 all all
 groups_all domains at all fits = record { greatest = omega arith; fits = fits }
 
-pub group_left : (domains : List Domain) (at so : ℕ) (items : List Item) (i : ℕ) (item : Item) (ids : List NodeId) → i < length items
-    → item ≡ get_or items i item → item ≡ Group ids → GroupsLeft domains at so (drop i items) items
-    → GroupsLeft domains at so (Group ids ∷ drop (i + 1) items) items
-group_left domains at so items i item ids within is kind left =
-    subst (λ (xs : List Item). GroupsLeft domains at so xs items) (item_at items i item (Group ids) within is kind) left
+-- the item at which the loop stands
+at_item : (domains : List Domain) (at so : ℕ) (items : List Item) (i : ℕ) (item : Item) → i < length items → item ≡ get_or items i item
+    → GroupsLeft domains at so (drop i items) items → GroupsLeft domains at so (item ∷ drop (i + 1) items) items
+at_item domains at so items i item within is left =
+    subst (λ (xs : List Item). GroupsLeft domains at so xs items) (item_at items i item item within is refl) left
 
-pub named : (domains : List Domain) (at so : ℕ) (ids : List NodeId) (rest all : List Item) → GroupsLeft domains at so (Group ids ∷ rest) all
-    → NamesChildren domains at ids
-named domains at so ids rest all left = left.fits.2
-
--- members need no more than the greatest of all
-pub members_within : (domains : List Domain) (at so : ℕ) (ids : List NodeId) (rest all : List Item)
-    → GroupsLeft domains at so (Group ids ∷ rest) all
-    → members_need (members_by (node_of domains) ids) ≤ body_need (body_by (node_of domains) all)
-members_within domains at so ids rest all left =
-    let greatest : max so (max (members_need (members_by (node_of domains) ids)) (body_need (body_by (node_of domains) rest)))
-    ≡ body_need (body_by (node_of domains) all) =
-    left.greatest in
-    omega arith
-
-pub group_less : (domains : List Domain) (at so n : ℕ) (ids : List NodeId) (rest all : List Item) → n ≡ members_need (members_by (node_of domains) ids)
-    → GroupsLeft domains at so (Group ids ∷ rest) all → GroupsLeft domains at (max so n) rest all
-group_less domains at so n ids rest all is left =
+less_one : (domains : List Domain) (at so : ℕ) (needs : List ℕ) (item : Item) (rest all : List Item) → HoldsFrom domains (at + 1) needs
+    → GroupsLeft domains at so (item ∷ rest) all → GroupsLeft domains at (max so (item_need needs item)) rest all
+less_one domains at so needs (Run op) rest all holds left =
+    let none : max so 0 ≡ so = omega arith in
+    record { greatest = ap (λ n. max n (body_need (body_by (node_of domains) rest))) none ∙ left.greatest; fits = left.fits.2 }
+less_one domains at so needs (Group ids) rest all holds left =
+    let sum : item_need needs (Group ids) ≡ members_need (members_by (node_of domains) ids) = members_sum domains at needs ids left.fits.2 holds in
     let greatest : max so (max (members_need (members_by (node_of domains) ids)) (body_need (body_by (node_of domains) rest)))
     ≡ body_need (body_by (node_of domains) all) =
     left.greatest in
     record { greatest = omega arith; fits = left.fits.3 }
 
-pub run_less : (domains : List Domain) (at so : ℕ) (items : List Item) (i : ℕ) (item : Item) (op : Op) → i < length items
-    → item ≡ get_or items i item → item ≡ Run op → GroupsLeft domains at so (drop i items) items
-    → GroupsLeft domains at so (drop (i + 1) items) items
-run_less domains at so items i item op within is kind left =
-    let here : GroupsLeft domains at so (Run op ∷ drop (i + 1) items) items =
-    subst (λ (xs : List Item). GroupsLeft domains at so xs items) (item_at items i item (Run op) within is kind) left in
-    record { greatest = here.greatest; fits = here.fits.2 }
+-- one item more
+pub item_less : (domains : List Domain) (at so : ℕ) (needs : List ℕ) (items : List Item) (i : ℕ) (item : Item) → i < length items
+    → item ≡ get_or items i item → HoldsFrom domains (at + 1) needs → GroupsLeft domains at so (drop i items) items
+    → GroupsLeft domains at (max so (item_need needs item)) (drop (i + 1) items) items
+item_less domains at so needs items i item within is holds left =
+    less_one domains at so needs item (drop (i + 1) items) items holds (at_item domains at so items i item within is left)
+
+can_add_one : (domains : List Domain) (at so : ℕ) (needs : List ℕ) (item : Item) (rest all : List Item) → HoldsFrom domains (at + 1) needs
+    → length needs ≡ length domains → body_need (body_by (node_of domains) all) < 2 ^ 64 → GroupsLeft domains at so (item ∷ rest) all
+    → CanAdd needs item
+can_add_one domains at so needs (Run op) rest all holds size fits left = tt
+can_add_one domains at so needs (Group ids) rest all holds size fits left =
+    let sum : item_need needs (Group ids) ≡ members_need (members_by (node_of domains) ids) = members_sum domains at needs ids left.fits.2 holds in
+    let greatest : max so (max (members_need (members_by (node_of domains) ids)) (body_need (body_by (node_of domains) rest)))
+    ≡ body_need (body_by (node_of domains) all) =
+    left.greatest in
+    let within : item_need needs (Group ids) < 2 ^ 64 = omega arith in
+    (subst (λ (n : ℕ). All (λ (id : NodeId). id.0 < n) ids) (sym size) (members_here domains at ids left.fits.2), within)
+
+-- an item can be added
+pub can_add : (domains : List Domain) (at so : ℕ) (needs : List ℕ) (items : List Item) (i : ℕ) (item : Item) → i < length items
+    → item ≡ get_or items i item → HoldsFrom domains (at + 1) needs → length needs ≡ length domains
+    → body_need (body_by (node_of domains) items) < 2 ^ 64 → GroupsLeft domains at so (drop i items) items → CanAdd needs item
+can_add domains at so needs items i item within is holds size fits left =
+    can_add_one domains at so needs item (drop (i + 1) items) items holds size fits (at_item domains at so items i item within is left)
 
 pub groups_end : (domains : List Domain) (at so : ℕ) (items : List Item) (i : ℕ) → length items ≤ i → GroupsLeft domains at so (drop i items) items
     → so ≡ body_need (body_by (node_of domains) items)
@@ -280,9 +287,9 @@ down_end domains k needs none down =
 -- a domain needs less than 2^44 blocks
 pub need_small : (tree : TreeModel) → IsTree tree → NestedViewFollows → NeedIsRoots → AreSmall tree.domains → (id : NodeId) (domain : Domain)
     → slice_get tree.domains id.0 ≡ Some domain
-    → own_need domain + body_need (body_by (node_of tree.domains) domain.items) < 2048 * 4294967361
+    → own_need domain + body_need (body_by (node_of tree.domains) domain.items) < domains_limit * (most_own + 1)
 need_small tree is views roots small id domain there =
-    let most : node_need (root_of tree.domains) < 2048 * 4294967361 = root_small tree is small in
+    let most : node_need (root_of tree.domains) < domains_limit * (most_own + 1) = root_small tree is small in
     let here : node_need (node id domain (body_by (node_of tree.domains) domain.items)) ≤ node_need (root_of tree.domains) =
     roots tree is id (node id domain (body_by (node_of tree.domains) domain.items)) (views tree is id domain there) in
     omega arith
@@ -290,9 +297,9 @@ need_small tree is views roots small id domain there =
 pub added_small : (tree : TreeModel) → IsTree tree → NestedViewFollows → NeedIsRoots → AreSmall tree.domains → (id : NodeId) (domain : Domain)
     → slice_get tree.domains id.0 ≡ Some domain → (needs : List ℕ) (v more : ℕ) → v ≡ get_or needs id.0 v
     → IsSomeAnd (node_of tree.domains id) (λ d. more ≡ body_need (body_of d))
-    → (k : ℕ) → k ≡ id.0 + 1 → NeedsDown tree.domains k needs → v + more < 2048 * 4294967361
+    → (k : ℕ) → k ≡ id.0 + 1 → NeedsDown tree.domains k needs → v + more < domains_limit * (most_own + 1)
 added_small tree is views roots small id domain there needs v more read adds k next down =
-    let all : own_need domain + body_need (body_by (node_of tree.domains) domain.items) < 2048 * 4294967361 =
+    let all : own_need domain + body_need (body_by (node_of tree.domains) domain.items) < domains_limit * (most_own + 1) =
     need_small tree is views roots small id domain there in
     let old : v ≡ own_need domain =
     read ∙ get_or_from_slice_get needs id.0 (own_need domain) v (down.own id.0 domain (omega arith) there) in

@@ -3,6 +3,7 @@ use Rattle.std.proofs.Common.{◌≡◌, inl, inr, ℕ, zero, suc, ◌+◌, ◌�
 use Rattle.std.specs.Option.{option_map_or}
 use Rattle.std.specs.List.{Contains}
 use Rattle.std.proofs.lemmas.List.Sums.{sum_by-cons}
+use Rattle.cd_base.proofs.ListLemmas.{some_of}
 use Rattle.cd_tree.specs.declared.domain.NodeId.{NodeId}
 use Rattle.cd_tree.specs.declared.domain.Item.{Item}
 use Rattle.cd_tree.specs.declared.domain.Item.TheVariants.{Run, Group}
@@ -10,10 +11,8 @@ use Rattle.cd_tree.specs.declared.domain.Domain.{Domain}
 use Rattle.cd_tree.specs.TreeModel.{FitsItems, NamesChildren}
 use Rattle.cd_tree.specs.Domains.{Node, Members, put_first, members_by, body_by, node_of}
 use Rattle.cd_tree.specs.Meaning.{node_need, body_need, members_need}
-use Rattle.cd_tree.specs.Laws.{NestedViewFollows, ParentsComeFirst, PathsGoDown}
 use Rattle.cd_cover.specs.Needs.{own_need}
 use Rattle.cd_cover.specs.PlanLaws.{need_of, GroupsNeedWithin, ChildrenNeedWithin}
-use Rattle.cd_cover.proofs.Views.{some_of}
 use Rattle.cd_cover.proofs.Downward.{Known, known_of, view_in, Child, child_of_group, contains_first, contains_cases, contains_none, IsNamed}
 use Rattle.cd_cover.proofs.PathLemmas.{child_is_named}
 
@@ -82,18 +81,18 @@ named_within domains all at (Group ids ∷ items) fits id (inr later) =
     let rest : need_of domains id ≤ body_need (body_by (node_of domains) items) = named_within domains all at items fits.3 id later in
     omega arith
 
-pub groups_need_within : NestedViewFollows → ParentsComeFirst → PathsGoDown → GroupsNeedWithin
-groups_need_within views parents paths tree is id domain there k ids group =
-    let all : Known tree.domains = known_of views parents paths tree is in
+pub groups_need_within : GroupsNeedWithin
+groups_need_within tree is id domain there k ids group =
+    let all : Known tree.domains = known_of tree is in
     let whole : need_of tree.domains id ≡ own_need domain + body_need (body_by (node_of tree.domains) domain.items) =
     need_there tree.domains all id domain there in
     let part : sum_by (need_of tree.domains) ids ≤ body_need (body_by (node_of tree.domains) domain.items) =
     group_within tree.domains all id.0 domain.items (all.fits id domain there) k ids group in
     omega arith
 
-pub children_need_within : NestedViewFollows → ParentsComeFirst → PathsGoDown → ChildrenNeedWithin
-children_need_within views parents paths tree is parent id above here child =
-    let all : Known tree.domains = known_of views parents paths tree is in
+pub children_need_within : ChildrenNeedWithin
+children_need_within tree is parent id above here child =
+    let all : Known tree.domains = known_of tree is in
     let found = some_of (slice_get tree.domains id.0) (λ domain. domain.parent ≡ Some parent) child in
     let whole : need_of tree.domains parent ≡ own_need above + body_need (body_by (node_of tree.domains) above.items) =
     need_there tree.domains all parent above here in

@@ -1,11 +1,10 @@
--- A program has one first flaw: a set of places has one least place, and an order of questions one first refusal.
-use Rattle.std.proofs.Common.{◌≡◌, ◌⊎◌, ℕ, ◌<◌, ◌≤◌, true, false, ◌&&◌, ◌||◌, nat_lt, ◌==◌, List, [], ◌∷◌, Option, None, Some, is_some, IsSome, refl, ap, sym, subst, ◌∙◌, inl, inr, arith}
-use Rattle.std.proofs.lemmas.Bool.Decides.{nat_tests}
+-- A program has one first flaw, since each of its questions has one answer.
+use Rattle.std.proofs.Common.{◌≡◌, ◌⊎◌, ℕ, ◌<◌, ◌≤◌, true, List, Option, None, Some, is_some, IsSome, refl, ap, sym, subst, ◌∙◌, inl, inr, arith}
 use Rattle.std.proofs.lemmas.Bool.{true≢false}
 use Rattle.cd_base.specs.declared.place.Place.{Place}
 use Rattle.cd_base.specs.declared.place.Range.{Range}
-use Rattle.cd_base.specs.Words.{PlaceSet}
-use Rattle.cd_base.specs.Places.{IsLeast, stands_before}
+use Rattle.cd_base.specs.Places.{IsLeast}
+use Rattle.cd_base.proofs.RangeLemmas.{IsLeast-same}
 use Rattle.cd_tree.specs.declared.domain.NodeId.{NodeId}
 use Rattle.cd_tree.specs.declared.domain.How.{How}
 use Rattle.cd_tree.specs.declared.domain.How.TheVariants.{Copy, Refer, Regen}
@@ -16,58 +15,12 @@ use Rattle.cd_tree.specs.declared.refusal.Which.TheVariants as which
 use Rattle.cd_tree.specs.declared.refusal.Refusal.{Refusal}
 use Rattle.cd_tree.specs.declared.refusal.Refusal.TheVariants.{Uncovered, NoTarget, Stale, Limit}
 use Rattle.cd_tree.specs.Domains.{Node, node, number_of, nodes_from, root_of}
+use Rattle.cd_tree.specs.Limits.{need_limit}
 use Rattle.cd_tree.specs.Meaning.{uncovered, node_need}
-use Rattle.cd_tree.specs.Refusals.{Then, FirstOf, numbered}
+use Rattle.cd_tree.specs.Refusals.{FirstOf, numbered}
+use Rattle.cd_tree.proofs.RefusalLemmas.{HasOne, then_is_one, first_is_one}
 use Rattle.cd_cover.specs.Links.{Frame, frames_of, link_in, stale}
 use Rattle.cd_cover.specs.Checks.{CoverageOf, ReferenceOf, EntryOf, NumberedEntryOf, DomainOf, NeedOf, FirstFlaw}
-
--- ---- the least place of a set
-
-same_number : (a b i j : ℕ) → (nat_lt a b || ((a == b) && nat_lt i j)) ≡ false → (nat_lt b a || ((b == a) && nat_lt j i)) ≡ false
-    → (a ≡ b) × (i ≡ j)
-same_number a b i j p q = (grind (arith, nat_tests), grind (arith, nat_tests))
-
-same_place : (p q : Place) → p.region ≡ q.region → p.index ≡ q.index → p ≡ q
-same_place p q region index =
-    let at_region : ℕ → Place = λ n. record { region = n; index = p.index } in
-    let at_index : ℕ → Place = λ n. record { region = q.region; index = n } in
-    ap at_region region ∙ ap at_index index
-
--- of two places, neither of which stands before the other, each is the other
-neither_first : (p q : Place) → stands_before p q ≡ false → stands_before q p ≡ false → p ≡ q
-neither_first p q first second =
-    let same = same_number p.region q.region p.index q.index first second in
-    same_place p q same.0 same.1
-
-least_is_one : (S : PlaceSet) (one other : Option Place) → IsLeast S one → IsLeast S other → one ≡ other
-least_is_one S None None p q = refl
-least_is_one S None (Some place) p q = absurd (true≢false (sym q.0 ∙ p place))
-least_is_one S (Some place) None p q = absurd (true≢false (sym p.0 ∙ q place))
-least_is_one S (Some here) (Some there) p q = ap (λ (place : Place). Some place) (neither_first here there (q.1 here p.0) (p.1 there q.0))
-
--- ---- questions in an order
-
--- a question has one answer
-abbrev HasOne : (Option Refusal → Type 0) → Type 0
-HasOne Says = (one other : Option Refusal) → Says one → Says other → one ≡ other
-
-some_is_none : (r : Refusal) → Some r ≡ None → ⊥
-some_is_none r e = cc
-
-then_is_one : (First Second : Option Refusal → Type 0) → HasOne First → HasOne Second → HasOne (Then First Second)
-then_is_one First Second one two None None p q = refl
-then_is_one First Second one two None (Some r) p (inl q) = one None (Some r) p.0 q
-then_is_one First Second one two None (Some r) p (inr q) = two None (Some r) p.1 q.1
-then_is_one First Second one two (Some r) None (inl p) q = one (Some r) None p q.0
-then_is_one First Second one two (Some r) None (inr p) q = two (Some r) None p.1 q.1
-then_is_one First Second one two (Some r) (Some s) (inl p) (inl q) = one (Some r) (Some s) p q
-then_is_one First Second one two (Some r) (Some s) (inl p) (inr q) = absurd (some_is_none r (one (Some r) None p q.0))
-then_is_one First Second one two (Some r) (Some s) (inr p) (inl q) = absurd (some_is_none s (one (Some s) None q p.0))
-then_is_one First Second one two (Some r) (Some s) (inr p) (inr q) = two (Some r) (Some s) p.1 q.1
-
-first_is_one : {A : Type 0} (Says : A → Option Refusal → Type 0) → ((x : A) → HasOne (Says x)) → (xs : List A) → HasOne (FirstOf Says xs)
-first_is_one Says each [] = λ one other p q. p ∙ sym q
-first_is_one Says each (x ∷ xs) = then_is_one (Says x) (FirstOf Says xs) (each x) (first_is_one Says each xs)
 
 -- ---- what entries leave out
 
@@ -89,7 +42,7 @@ coverage_is_one : (d : Node) → HasOne (CoverageOf d)
 coverage_is_one d one other p q =
     let here = coverage_comes d one p in
     let there = coverage_comes d other q in
-    sym here.2 ∙ ap (left_out d) (least_is_one (uncovered d) here.0 there.0 here.1 there.1) ∙ there.2
+    sym here.2 ∙ ap (left_out d) (IsLeast-same (uncovered d) here.0 there.0 here.1 there.1) ∙ there.2
 
 -- ---- references
 
@@ -134,7 +87,7 @@ reference_agree id frames at r one other (inl p) (inl q) = p.1 ∙ sym q.1
 reference_agree id frames at r one other (inl p) (inr q) = absurd (linked_or_not (link_in r frames) p.0 q.0)
 reference_agree id frames at r one other (inr p) (inl q) = absurd (linked_or_not (link_in r frames) q.0 p.0)
 reference_agree id frames at r one other (inr (some, p)) (inr (linked, q)) =
-    sym p.2 ∙ ap (stale_at id at) (least_is_one (stale r frames) p.0 q.0 p.1 q.1) ∙ q.2
+    sym p.2 ∙ ap (stale_at id at) (IsLeast-same (stale r frames) p.0 q.0 p.1 q.1) ∙ q.2
 
 reference_is_one : (id : NodeId) (frames : List Frame) (at : ℕ) (r : Range) → HasOne (ReferenceOf id frames at r)
 reference_is_one id frames at r one other p q =
@@ -164,9 +117,9 @@ same_need limit count need p q =
 
 -- the need is within the limit, or is refused
 abbrev NeedComes : ℕ → Option Refusal → Type 0
-NeedComes need answer = ((need ≤ 65536) × (answer ≡ None)) ⊎ ((65536 < need) × (answer ≡ Some (Limit which.Need need)))
+NeedComes need answer = ((need ≤ need_limit) × (answer ≡ None)) ⊎ ((need_limit < need) × (answer ≡ Some (Limit which.Need need)))
 
-above : (count need : ℕ) → count ≡ need → 65536 < count → 65536 < need
+above : (count need : ℕ) → count ≡ need → need_limit < count → need_limit < need
 above count need same more = omega (arith, same, more)
 
 need_comes : (root : Node) (answer : Option Refusal) → NeedOf root answer → NeedComes (node_need root) answer
@@ -175,7 +128,7 @@ need_comes root (Some (Limit limit count)) (limited, counted, more) =
     inr (above count (node_need root) counted more, same_need limit count (node_need root) limited counted)
 need_comes root (Some _) never = absurd never
 
-not_both : (need : ℕ) → need ≤ 65536 → 65536 < need → ⊥
+not_both : (need : ℕ) → need ≤ need_limit → need_limit < need → ⊥
 not_both need within more = omega arith
 
 need_agree : (need : ℕ) (one other : Option Refusal) → NeedComes need one → NeedComes need other → one ≡ other

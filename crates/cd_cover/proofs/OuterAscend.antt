@@ -5,8 +5,9 @@ use Rattle.std.proofs.lemmas.Bool.{cases_Bool}
 use Rattle.std.proofs.lemmas.List.Elements.{All-nil, All-cons, All-head, All-tail, All-append, All-weaker}
 use Rattle.cd_tree.specs.declared.domain.NodeId.{NodeId}
 use Rattle.cd_tree.specs.Domains.{node_numbers, number_of, numbers_from}
-use Rattle.cd_tree.specs.SliceLaws.{SubtreesAreSlices}
-use Rattle.cd_cover.specs.OuterLaws.{ComesBefore, Ascend, OuterAscend, OuterInOrder, leads_before, leading_before, leading_of}
+use Rattle.cd_cover.specs.OuterLaws.{ComesBefore, Ascend, OuterAscend, leads_before, leading_before, leading_of}
+use Rattle.cd_cover.proofs.Grounds.{slices}
+use Rattle.cd_cover.proofs.OuterLemmas.{outer_in_order}
 
 -- entries of one domain from a number on
 abbrev InRow : NodeId → ℕ → NodeId × ℕ → Type 0
@@ -85,8 +86,8 @@ rows_ascend links first n (suc left) =
     (λ x own. All-weaker (InRows (suc n)) (ComesBefore x) (λ y later. before_rows n x y own later) rest (rows_all links first (suc n) left))
     (leading_of links first n) (row_all first (record { 0 = n }) 0 (slice_index_or links n [])))
 
-pub outer_ascend : OuterInOrder → SubtreesAreSlices → OuterAscend
-outer_ascend order slices plan is id d found =
+pub outer_ascend : OuterAscend
+outer_ascend plan is id d found =
     subst Ascend
-    (ap (flat_map (leading_of plan.links (number_of d))) (sym (slices plan.tree is.program id d found)) ∙ sym (order plan is id d found))
+    (ap (flat_map (leading_of plan.links (number_of d))) (sym (slices plan.tree is.program id d found)) ∙ sym (outer_in_order plan is id d found))
     (rows_ascend plan.links (number_of d) (number_of d) (length (node_numbers d)))

@@ -17,14 +17,14 @@ use Rattle.cd_tree.specs.TreeModel.{FitsItems, NamesChildren}
 use Rattle.cd_tree.specs.Domains.{Node, Members, put_first, members_by, body_by, nodes_from, node_of, number_of, node_numbers, body_numbers, member_numbers}
 use Rattle.cd_tree.specs.Legal.{entry_at}
 use Rattle.cd_tree.specs.Scripts.{path_of}
-use Rattle.cd_tree.specs.Laws.{NestedViewFollows, ParentsComeFirst, PathsGoDown}
-use Rattle.cd_cover.specs.Laws.{FramesGoUp, FramesEnd}
 use Rattle.cd_cover.specs.Links.{Frame, frame_over, frames_of, holder, link_in, entry_link, by_way, link_of}
 use Rattle.cd_cover.specs.Outer.{is_reference, leading_out, frame_at, node_outer, body_outer, members_outer, outer_references}
 use Rattle.cd_cover.specs.Plans.{PlanModel, IsPlan, links_of}
 use Rattle.cd_cover.specs.OuterLaws.{leads_before, leading_before, leading_of, OuterInOrder}
 use Rattle.cd_cover.proofs.LinkLemmas.{leads_at, links_lead}
 use Rattle.cd_cover.proofs.Downward.{Known, known_of, view_in, domain_behind, Child, downward, child_of_group, contains_first, numbers_cases}
+use Rattle.cd_cover.proofs.Grounds.{views}
+use Rattle.cd_cover.proofs.Frames.{frames_go_up}
 
 -- ---- one domain
 
@@ -125,22 +125,22 @@ numbers_there domains all =
       | inr found ↦ rest found.id found.child.domain found.child.later found.child.there n found.among
     ])
 
-pub plan_facts : NestedViewFollows → ParentsComeFirst → PathsGoDown → FramesGoUp → FramesEnd → (plan : PlanModel) → IsPlan plan
+pub plan_facts : (plan : PlanModel) → IsPlan plan
     → PlanFacts plan.tree.domains plan.links
-plan_facts views parents paths goes ends plan is =
+plan_facts plan is =
     record {
-      all = known_of views parents paths plan.tree is.program;
-      up = goes plan.tree is.program;
+      all = known_of plan.tree is.program;
+      up = frames_go_up plan.tree is.program;
       leads = λ id domain there r up k link.
-          let found = leads_at goes ends parents paths plan.tree is.program (suc id.0) id domain (omega arith) there r up k link in
+          let found = leads_at plan.tree is.program (suc id.0) id domain (omega arith) there r up k link in
           (found.0, found.1);
       linked = λ id domain there k entry here refers.
           (is.linked id k entry (ap (option_and_then (λ (d : Domain). slice_get d.entries k)) there ∙ here) refers).0;
       lead = λ id up at k link.
           let entry = entry_of (entry_link (frames_of plan.tree.domains id)) (entry_at plan.tree.domains id at) (up, k) link in
-          let found = links_lead goes ends parents paths plan.tree is.program id up at k entry.0 entry.1 link in
+          let found = links_lead plan.tree is.program id up at k entry.0 entry.1 link in
           (found.0, found.1);
-      here = numbers_there plan.tree.domains (known_of views parents paths plan.tree is.program);
+      here = numbers_there plan.tree.domains (known_of plan.tree is.program);
       row = λ id domain there.
           let whole : slice_get plan.links id.0 ≡ Some (map (entry_link (frames_of plan.tree.domains id)) domain.entries) =
           ap (λ (rows : List (List (Option (NodeId × ℕ)))). slice_get rows id.0) is.link
@@ -168,10 +168,15 @@ inside_child domains links facts first inner id domain there inside child c =
           ∙ ap (λ (fs : List Frame). goes_out first (link_in r fs)) (sym (facts.up child id c.domain domain c.there c.parent there));
     }
 
+-- the outer references in each child of a domain are listed domain by domain
+abbrev ChildrenListed : List Domain → (ℕ → List (NodeId × ℕ)) → ℕ → List Frame → Type 0
+ChildrenListed domains F at inner =
+    (child : NodeId) (c : Child domains at child)
+    → node_outer inner (view_in domains child c.domain) ≡ flat_map F (node_numbers (view_in domains child c.domain))
+
 outer_of_group : (domains : List Domain) → Known domains → (F : ℕ → List (NodeId × ℕ)) (at : ℕ) (inner : List Frame) (ids : List NodeId)
     → NamesChildren domains at ids
-    → ((child : NodeId) (c : Child domains at child)
-    → node_outer inner (view_in domains child c.domain) ≡ flat_map F (node_numbers (view_in domains child c.domain)))
+    → ChildrenListed domains F at inner
     → members_outer inner (members_by (node_of domains) ids) ≡ flat_map F (member_numbers (members_by (node_of domains) ids))
 outer_of_group domains all F at inner [] named each = refl
 outer_of_group domains all F at inner (first ∷ ids) named each =
@@ -187,8 +192,7 @@ outer_of_group domains all F at inner (first ∷ ids) named each =
 
 outer_of_items : (domains : List Domain) → Known domains → (F : ℕ → List (NodeId × ℕ)) (at : ℕ) (inner : List Frame) (items : List Item)
     → FitsItems domains at items
-    → ((child : NodeId) (c : Child domains at child)
-    → node_outer inner (view_in domains child c.domain) ≡ flat_map F (node_numbers (view_in domains child c.domain)))
+    → ChildrenListed domains F at inner
     → body_outer inner (body_by (node_of domains) items) ≡ flat_map F (body_numbers (body_by (node_of domains) items))
 outer_of_items domains all F at inner [] fits each = refl
 outer_of_items domains all F at inner (Run op ∷ items) fits each = outer_of_items domains all F at inner items fits.2 each
@@ -234,9 +238,9 @@ pub outer_listed : (domains : List Domain) (links : List (List (Option (NodeId �
 outer_listed domains links facts id domain there =
     outer_inside domains links facts id.0 id domain there [] (outermost domains links facts id domain there)
 
-pub outer_in_order : NestedViewFollows → ParentsComeFirst → PathsGoDown → FramesGoUp → FramesEnd → OuterInOrder
-outer_in_order views parents paths goes ends plan is id d found =
-    let facts : PlanFacts plan.tree.domains plan.links = plan_facts views parents paths goes ends plan is in
+pub outer_in_order : OuterInOrder
+outer_in_order plan is id d found =
+    let facts : PlanFacts plan.tree.domains plan.links = plan_facts plan is in
     let top = domain_behind plan.tree.domains id d found in
     subst (λ (v : Node). outer_references v ≡ flat_map (leading_of plan.links (number_of v)) (node_numbers v)) (sym (top.2 facts.all))
     (outer_listed plan.tree.domains plan.links facts id top.0 top.1)

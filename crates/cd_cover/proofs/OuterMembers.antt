@@ -4,17 +4,16 @@ use Rattle.std.specs.List.{Contains}
 use Rattle.std.proofs.lemmas.List.Elements.{All-weaker, All-contains_itself}
 use Rattle.std.proofs.lemmas.Bool.{cases_lt}
 use Rattle.std.proofs.lemmas.Option.{same_Some}
+use Rattle.cd_base.proofs.ListLemmas.{some_of, some_and}
 use Rattle.cd_tree.specs.declared.domain.NodeId.{NodeId}
 use Rattle.cd_tree.specs.declared.domain.Domain.{Domain}
 use Rattle.cd_tree.specs.TreeModel.{TreeModel, IsTree}
 use Rattle.cd_tree.specs.Domains.{Node, node_of, node_numbers}
 use Rattle.cd_tree.specs.Scripts.{path_of}
-use Rattle.cd_tree.specs.Laws.{NestedViewFollows, ParentsComeFirst, PathsGoDown}
-use Rattle.cd_cover.specs.Laws.{FramesGoUp, FramesEnd}
 use Rattle.cd_cover.specs.Links.{link_of}
 use Rattle.cd_cover.specs.Outer.{outer_references}
+use Rattle.cd_cover.specs.Plans.{PlanModel, IsPlan}
 use Rattle.cd_cover.specs.OuterLaws.{LiesAbove, IsOuter, IsChild, LinksTo, OuterOfMembers, OuterLieBelow}
-use Rattle.cd_cover.proofs.Views.{some_of, some_and}
 use Rattle.cd_cover.proofs.Downward.{Known, view_in, same_id}
 use Rattle.cd_cover.proofs.PathLemmas.{InParent, in_own_parent, numbers_through, path_cases, path_before, path_up}
 use Rattle.cd_cover.proofs.OuterLemmas.{PlanFacts, plan_facts}
@@ -88,6 +87,25 @@ view_is domains all id domain there d found =
     let view : node_of domains id ≡ Some (view_in domains id domain) = all.view id domain there in
     cc
 
+-- a domain of a plan and its parent, with the views that they have
+pub record Kin (plan : PlanModel) (parent id : NodeId) (above d : Node) : Type 0 where
+  pub facts : PlanFacts plan.tree.domains plan.links
+  pub family : Family plan.tree.domains parent id
+  pub below_is : d ≡ view_in plan.tree.domains id family.domain
+  pub above_is : above ≡ view_in plan.tree.domains parent family.over
+
+pub kin_of : (plan : PlanModel) → IsPlan plan → (parent id : NodeId) (above d : Node) → node_of plan.tree.domains parent ≡ Some above
+    → node_of plan.tree.domains id ≡ Some d → IsChild plan.tree.domains parent id → Kin plan parent id above d
+kin_of plan is parent id above d found_above found child =
+    let facts : PlanFacts plan.tree.domains plan.links = plan_facts plan is in
+    let kin : Family plan.tree.domains parent id = family plan.tree is.program facts.all parent id child in
+    record {
+      facts = facts;
+      family = kin;
+      below_is = view_is plan.tree.domains facts.all id kin.domain kin.there d found;
+      above_is = view_is plan.tree.domains facts.all parent kin.over kin.over_there above found_above;
+    }
+
 member_or_own : (domains : List Domain) (links : List (List (Option (NodeId × ℕ)))) → PlanFacts domains links → (parent id : NodeId)
     → (kin : Family domains parent id) → (reference : NodeId × ℕ) → Contains (outer_references (view_in domains id kin.domain)) reference
     → LinksTo domains parent reference ⊎ Contains (outer_references (view_in domains parent kin.over)) reference
@@ -107,18 +125,15 @@ member_or_own domains links facts parent id kin reference among =
           inl (some_and (link_of domains reference.0 reference.1) (λ link. link.0 ≡ parent) parts.link parts.is here)
     ]
 
-pub outer_of_members : NestedViewFollows → ParentsComeFirst → PathsGoDown → FramesGoUp → FramesEnd → OuterOfMembers
-outer_of_members views parents paths goes ends plan is parent id above d found_above found child =
+pub outer_of_members : OuterOfMembers
+outer_of_members plan is parent id above d found_above found child =
     let domains : List Domain = plan.tree.domains in
-    let facts : PlanFacts domains plan.links = plan_facts views parents paths goes ends plan is in
-    let kin : Family domains parent id = family plan.tree is.program facts.all parent id child in
-    let one : d ≡ view_in domains id kin.domain = view_is domains facts.all id kin.domain kin.there d found in
-    let two : above ≡ view_in domains parent kin.over = view_is domains facts.all parent kin.over kin.over_there above found_above in
+    let kin : Kin plan parent id above d = kin_of plan is parent id above d found_above found child in
     All-weaker (Contains (outer_references d)) (λ reference. LinksTo domains parent reference ⊎ Contains (outer_references above) reference)
     (λ reference among.
-    subst (λ (v : Node). LinksTo domains parent reference ⊎ Contains (outer_references v) reference) (sym two)
-    (member_or_own domains plan.links facts parent id kin reference
-    (subst (λ (v : Node). Contains (outer_references v) reference) one among)))
+    subst (λ (v : Node). LinksTo domains parent reference ⊎ Contains (outer_references v) reference) (sym kin.above_is)
+    (member_or_own domains plan.links kin.facts parent id kin.family reference
+    (subst (λ (v : Node). Contains (outer_references v) reference) kin.below_is among)))
     (outer_references d) (All-contains_itself (outer_references d))
 
 lies_below : (domains : List Domain) (links : List (List (Option (NodeId × ℕ)))) → PlanFacts domains links → (parent id : NodeId)
@@ -132,18 +147,15 @@ lies_below domains links facts parent id kin reference among within =
     outer_from_parts domains links facts id kin.domain kin.there reference parts.link within parts.is
     (path_up domains facts.all id parent kin.domain kin.there kin.is_parent parts.link.0 parts.on) (omega arith)
 
-pub outer_lie_below : NestedViewFollows → ParentsComeFirst → PathsGoDown → FramesGoUp → FramesEnd → OuterLieBelow
-outer_lie_below views parents paths goes ends plan is parent id above d found_above found child =
+pub outer_lie_below : OuterLieBelow
+outer_lie_below plan is parent id above d found_above found child =
     let domains : List Domain = plan.tree.domains in
-    let facts : PlanFacts domains plan.links = plan_facts views parents paths goes ends plan is in
-    let kin : Family domains parent id = family plan.tree is.program facts.all parent id child in
-    let one : d ≡ view_in domains id kin.domain = view_is domains facts.all id kin.domain kin.there d found in
-    let two : above ≡ view_in domains parent kin.over = view_is domains facts.all parent kin.over kin.over_there above found_above in
+    let kin : Kin plan parent id above d = kin_of plan is parent id above d found_above found child in
     All-weaker (Contains (outer_references above))
     (λ reference. Contains (node_numbers d) reference.0.0 → Contains (outer_references d) reference)
     (λ reference among within.
-    subst (λ (v : Node). Contains (outer_references v) reference) (sym one)
-    (lies_below domains plan.links facts parent id kin reference
-    (subst (λ (v : Node). Contains (outer_references v) reference) two among)
-    (subst (λ (v : Node). Contains (node_numbers v) reference.0.0) one within)))
+    subst (λ (v : Node). Contains (outer_references v) reference) (sym kin.below_is)
+    (lies_below domains plan.links kin.facts parent id kin.family reference
+    (subst (λ (v : Node). Contains (outer_references v) reference) kin.above_is among)
+    (subst (λ (v : Node). Contains (node_numbers v) reference.0.0) kin.below_is within)))
     (outer_references above) (All-contains_itself (outer_references above))

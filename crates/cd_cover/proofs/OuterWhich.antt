@@ -7,6 +7,7 @@ use Rattle.std.proofs.lemmas.List.Elements.{Contains-append_left, Contains-appen
 use Rattle.std.proofs.lemmas.Bool.{ltb-true, lt-ltb, cases_Bool}
 use Rattle.cd_tree.specs.declared.domain.NodeId.{NodeId}
 use Rattle.cd_base.specs.declared.place.Range.{Range}
+use Rattle.cd_base.proofs.ListLemmas.{some_of, some_and}
 use Rattle.cd_tree.specs.declared.domain.How.{How}
 use Rattle.cd_tree.specs.declared.domain.How.TheVariants.{Copy, Refer, Regen}
 use Rattle.cd_tree.specs.declared.domain.Entry.{Entry}
@@ -14,12 +15,9 @@ use Rattle.cd_tree.specs.declared.domain.Domain.{Domain}
 use Rattle.cd_tree.specs.Domains.{Node, node, node_of, node_numbers}
 use Rattle.cd_tree.specs.Legal.{entry_at}
 use Rattle.cd_tree.specs.Scripts.{path_of}
-use Rattle.cd_tree.specs.Laws.{NestedViewFollows, ParentsComeFirst, PathsGoDown}
-use Rattle.cd_cover.specs.Laws.{FramesGoUp, FramesEnd}
 use Rattle.cd_cover.specs.Links.{Frame, frames_of, link_in, by_way, entry_link, link_of}
 use Rattle.cd_cover.specs.Outer.{outer_references}
 use Rattle.cd_cover.specs.OuterLaws.{LiesAbove, IsOuter, OuterAreThese, OuterAreReferences, leads_before, leading_before, leading_of}
-use Rattle.cd_cover.proofs.Views.{some_of, some_and}
 use Rattle.cd_cover.proofs.Downward.{view_in, domain_behind, contains_first, contains_behind, contains_cases, contains_none}
 use Rattle.cd_cover.proofs.PathLemmas.{path_order, top_on_path}
 use Rattle.cd_cover.proofs.OuterLemmas.{PlanFacts, plan_facts, outer_listed}
@@ -207,9 +205,9 @@ outer_exactly domains links facts id d found (below, at) =
       outer_was_there domains links facts id top.0 top.1 below at,
     )
 
-pub outer_are_these : NestedViewFollows → ParentsComeFirst → PathsGoDown → FramesGoUp → FramesEnd → OuterAreThese
-outer_are_these views parents paths goes ends plan is id d found reference =
-    outer_exactly plan.tree.domains plan.links (plan_facts views parents paths goes ends plan is) id d found reference
+pub outer_are_these : OuterAreThese
+outer_are_these plan is id d found reference =
+    outer_exactly plan.tree.domains plan.links (plan_facts plan is) id d found reference
 
 -- ---- each is a reference
 
@@ -229,9 +227,9 @@ outer_is_reference domains (node id domain body) (below, at) outer =
     (ap (option_and_then (λ (d : Domain). slice_get d.entries at)) one.there ∙ one.here)
     (reference_of one.entry.how one.entry.range (frames_of domains below) link.0 one.is).0
 
-pub outer_are_references : OuterAreThese → OuterAreReferences
-outer_are_references these plan is id d found =
+pub outer_are_references : OuterAreReferences
+outer_are_references plan is id d found =
     All-weaker (Contains (outer_references d))
     (λ reference. IsSomeAnd (entry_at plan.tree.domains reference.0 reference.1) (λ entry. entry.how ≡ Refer))
-    (λ reference among. outer_is_reference plan.tree.domains d reference ((these plan is id d found reference).0 among))
+    (λ reference among. outer_is_reference plan.tree.domains d reference ((outer_are_these plan is id d found reference).0 among))
     (outer_references d) (All-contains_itself (outer_references d))

@@ -4,13 +4,13 @@ use Rattle.std.specs.Option.{option_map_or}
 use Rattle.std.specs.List.{Contains}
 use Rattle.std.proofs.lemmas.Option.{slice_get_within, same_Some}
 use Rattle.std.proofs.lemmas.List.Elements.{Contains-append_left, Contains-push, Contains-push_cases}
+use Rattle.cd_base.proofs.ListLemmas.{some_of}
 use Rattle.cd_tree.specs.declared.domain.NodeId.{NodeId}
 use Rattle.cd_tree.specs.declared.domain.Domain.{Domain}
 use Rattle.cd_tree.specs.TreeModel.{TreeModel, IsTree}
 use Rattle.cd_tree.specs.Domains.{Node, node_of, root_of, node_numbers, numbers_from}
 use Rattle.cd_tree.specs.Scripts.{path_of}
-use Rattle.cd_cover.proofs.Views.{some_of, domain_here}
-use Rattle.cd_tree.specs.Laws.{NestedViewFollows, ParentsComeFirst, PathsGoDown}
+use Rattle.cd_tree.proofs.View.{domain_here}
 use Rattle.cd_cover.specs.OuterLaws.{SubtreesByPaths}
 use Rattle.cd_cover.proofs.Downward.{Known, known_of, view_in, domain_behind, same_id, IsNamed, downward, upward, contains_first, contains_behind, numbers_cases, numbers_of_child}
 
@@ -305,9 +305,9 @@ end_in_subtree tree is all =
     numbers_first : (domains : List Domain) (id : NodeId) (domain : Domain) → Contains (node_numbers (view_in domains id domain)) id.0
     numbers_first domains id domain = (0, omega arith, refl)
 
-pub subtrees_by_paths : NestedViewFollows → ParentsComeFirst → PathsGoDown → SubtreesByPaths
-subtrees_by_paths views parents paths tree is id below d found within =
-    let all : Known tree.domains = known_of views parents paths tree is in
+pub subtrees_by_paths : SubtreesByPaths
+subtrees_by_paths tree is id below d found within =
+    let all : Known tree.domains = known_of tree is in
     let last = domain_here tree.domains below.0 within in
     let top = domain_behind tree.domains id d found in (
       λ among.

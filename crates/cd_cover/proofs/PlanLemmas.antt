@@ -5,6 +5,7 @@ use Rattle.std.proofs.lemmas.List.{length-map}
 use Rattle.std.proofs.lemmas.Option.{slice_get-map, get_or_from_slice_get}
 use Rattle.cd_base.specs.declared.place.Place.{Place}
 use Rattle.cd_base.specs.declared.place.Range.{Range}
+use Rattle.cd_base.proofs.ListLemmas.{some_of, some_and}
 use Rattle.cd_tree.specs.declared.domain.NodeId.{NodeId}
 use Rattle.cd_tree.specs.declared.domain.How.{How}
 use Rattle.cd_tree.specs.declared.domain.How.TheVariants.{Copy, Refer, Regen}
@@ -12,14 +13,16 @@ use Rattle.cd_tree.specs.declared.domain.Entry.{Entry}
 use Rattle.cd_tree.specs.declared.domain.Domain.{Domain}
 use Rattle.cd_tree.specs.TreeModel.{TreeModel, IsTree}
 use Rattle.cd_tree.specs.Domains.{Node, node, body_by, nodes_from, node_of, root_of}
+use Rattle.cd_tree.specs.Limits.{need_limit}
 use Rattle.cd_tree.specs.Meaning.{IsCovered, uncovered, node_need}
 use Rattle.cd_tree.specs.Legal.{entry_at}
-use Rattle.cd_tree.specs.Laws.{NestedViewFollows, CoveredByDomains, NeedIsRoots}
+use Rattle.cd_tree.specs.Laws.{CoveredByDomains}
 use Rattle.cd_tree.specs.Refusals.{FirstOf, numbered}
+use Rattle.cd_tree.proofs.View.{length-nodes_from, domain_here}
 use Rattle.cd_cover.specs.Links.{Frame, frames_of, link_in, link_of, by_way, entry_link}
 use Rattle.cd_cover.specs.Checks.{EntryOf, NumberedEntryOf, DomainOf}
 use Rattle.cd_cover.specs.Plans.{PlanModel, IsPlan, HasFreshLinks, links_of}
-use Rattle.cd_cover.proofs.Views.{some_of, some_and, domain_here, length-nodes_from}
+use Rattle.cd_cover.proofs.Grounds.{views, roots}
 
 -- ---- no flaw
 
@@ -51,9 +54,9 @@ entry_clear id frames at (entry ∷ entries) (here, rest) (suc k) e there =
     let sum : at + suc k ≡ suc at + k = omega arith in
     rw sum (entry_clear id frames (suc at) entries rest k e there)
 
-pub fresh_links : (tree : TreeModel) → IsTree tree → NestedViewFollows → FirstOf (DomainOf tree.domains) (nodes_from 0 tree.domains) None
+pub fresh_links : (tree : TreeModel) → IsTree tree → FirstOf (DomainOf tree.domains) (nodes_from 0 tree.domains) None
     → HasFreshLinks tree
-fresh_links tree is views clear id at entry there refers =
+fresh_links tree is clear id at entry there refers =
     let found = entry_in (slice_get tree.domains id.0) at entry there in
     let here : DomainOf tree.domains (node id found.0 (body_by (node_of tree.domains) found.0.items)) None =
     each_clear tree.domains (nodes_from 0 tree.domains) clear id.0 (node id found.0 (body_by (node_of tree.domains) found.0.items))
@@ -74,12 +77,12 @@ pub root_read : (domains : List Domain) (needs : List ℕ) (v : ℕ) → 0 < len
 root_read [] needs v some is read = absurd (omega arith)
 root_read (first ∷ rest) needs v some is read = read ∙ ap (λ (xs : List ℕ). get_or xs 0 v) is
 
--- ---- what a plan gives
+-- ---- what a plan gives: `inside` is the plan by its fields, which is the plan as contracts see it
 
-view_of : (tree : TreeModel) → IsTree tree → NestedViewFollows → (id : NodeId) → id.0 < length tree.domains
+view_of : (tree : TreeModel) → IsTree tree → (id : NodeId) → id.0 < length tree.domains
     → (domain : Domain) × (slice_get tree.domains id.0 ≡ Some domain)
     × (node_of tree.domains id ≡ Some (node id domain (body_by (node_of tree.domains) domain.items)))
-view_of tree is views id within =
+view_of tree is id within =
     let here = domain_here tree.domains id.0 within in
     (here.0, here.1, views tree is id here.0 here.1)
 
@@ -89,26 +92,38 @@ map_read f xs k x ys y is there read =
     let found : slice_get ys k ≡ Some (f x) = ap (λ zs. slice_get zs k) is ∙ slice_get-map f xs k ∙ ap (option_map f) there in
     read ∙ get_or_from_slice_get ys k (f x) y found
 
-pub needs_within : (plan : PlanModel) → IsPlan plan → (id : NodeId) → id.0 < length plan.tree.domains → id.0 < length plan.needs
-needs_within plan is id within =
-    let size : length plan.needs ≡ length plan.tree.domains =
-    ap length is.need ∙ length-map (nodes_from 0 plan.tree.domains) node_need ∙ length-nodes_from 0 plan.tree.domains in
+-- a domain of the plan is one of those inside
+pub here_inside : (inside plan : PlanModel) → inside ≡ plan → (id : NodeId) → id.0 < length plan.tree.domains → id.0 < length inside.tree.domains
+here_inside inside plan same id within = subst (λ (p : PlanModel). id.0 < length p.tree.domains) (sym same) within
+
+pub needs_within : (inside plan : PlanModel) → inside ≡ plan → IsPlan inside → (id : NodeId) → id.0 < length plan.tree.domains
+    → id.0 < length inside.needs
+needs_within inside plan same is id here =
+    let within : id.0 < length inside.tree.domains = here_inside inside plan same id here in
+    let size : length inside.needs ≡ length inside.tree.domains =
+    ap length is.need ∙ length-map (nodes_from 0 inside.tree.domains) node_need ∙ length-nodes_from 0 inside.tree.domains in
     omega arith
 
-pub need_read : (plan : PlanModel) → IsPlan plan → NestedViewFollows → (id : NodeId) → id.0 < length plan.tree.domains
+need_of : (plan : PlanModel) → IsPlan plan → (id : NodeId) → id.0 < length plan.tree.domains
     → (v : ℕ) → v ≡ get_or plan.needs id.0 v → IsSomeAnd (node_of plan.tree.domains id) (λ d. v ≡ node_need d)
-need_read plan is views id within v read =
-    let view = view_of plan.tree is.program views id within in
+need_of plan is id within v read =
+    let view = view_of plan.tree is.program id within in
     some_and (node_of plan.tree.domains id) (λ d. v ≡ node_need d) (node id view.0 (body_by (node_of plan.tree.domains) view.0.items)) view.2
     (map_read node_need (nodes_from 0 plan.tree.domains) id.0 (node id view.0 (body_by (node_of plan.tree.domains) view.0.items)) plan.needs v
     is.need view.2 read)
 
-pub need_fits : (plan : PlanModel) → IsPlan plan → NestedViewFollows → NeedIsRoots → (id : NodeId) → id.0 < length plan.tree.domains
-    → (v : ℕ) → v ≡ get_or plan.needs id.0 v → v ≤ 65536
-need_fits plan is views roots id within v read =
-    let view = some_of (node_of plan.tree.domains id) (λ d. v ≡ node_need d) (need_read plan is views id within v read) in
-    let below : node_need view.0 ≤ node_need (root_of plan.tree.domains) = roots plan.tree is.program id view.0 view.1 in
-    let limit : node_need (root_of plan.tree.domains) ≤ 65536 = is.within in
+pub need_read : (inside plan : PlanModel) → inside ≡ plan → IsPlan inside → (id : NodeId) → id.0 < length plan.tree.domains
+    → (v : ℕ) → v ≡ get_or inside.needs id.0 v → IsSomeAnd (node_of plan.tree.domains id) (λ d. v ≡ node_need d)
+need_read inside plan same is id here v read =
+    subst (λ (p : PlanModel). IsSomeAnd (node_of p.tree.domains id) (λ d. v ≡ node_need d)) same
+    (need_of inside is id (here_inside inside plan same id here) v read)
+
+pub need_fits : (inside plan : PlanModel) → inside ≡ plan → IsPlan inside → (id : NodeId) → id.0 < length plan.tree.domains
+    → (v : ℕ) → v ≡ get_or inside.needs id.0 v → v ≤ need_limit
+need_fits inside plan same is id here v read =
+    let view = some_of (node_of inside.tree.domains id) (λ d. v ≡ node_need d) (need_of inside is id (here_inside inside plan same id here) v read) in
+    let below : node_need view.0 ≤ node_need (root_of inside.tree.domains) = roots inside.tree is.program id view.0 view.1 in
+    let limit : node_need (root_of inside.tree.domains) ≤ need_limit = is.within in
     let equal : v ≡ node_need view.0 = view.2 in
     omega arith
 
@@ -123,10 +138,10 @@ entry_found (Some domain) at some = entry_some (slice_get domain.entries at) ref
     entry_some None is some = absurd (cc)
     entry_some (Some entry) is some = (domain, entry, refl, is)
 
-pub link_read : (plan : PlanModel) → IsPlan plan → NestedViewFollows → (id : NodeId) (at : ℕ) → IsSome (entry_at plan.tree.domains id at)
+link_of_row : (plan : PlanModel) → IsPlan plan → (id : NodeId) (at : ℕ) → IsSome (entry_at plan.tree.domains id at)
     → (row : List (Option (NodeId × ℕ))) → row ≡ get_or plan.links id.0 row
     → get_or row at None ≡ link_of plan.tree.domains id at
-link_read plan is views id at some row read =
+link_of_row plan is id at some row read =
     let found = entry_found (slice_get plan.tree.domains id.0) at some in
     let view : Node = node id found.0 (body_by (node_of plan.tree.domains) found.0.items) in
     let link : Entry → Option (NodeId × ℕ) = entry_link (frames_of plan.tree.domains id) in
@@ -150,10 +165,10 @@ way_none Refer r frames linked = (
 )
 way_none (Regen pattern) r frames linked = (λ none same. absurd (cc), λ differs. refl)
 
-pub link_none : (plan : PlanModel) → IsPlan plan → (id : NodeId) (at : ℕ) → IsSome (entry_at plan.tree.domains id at)
+none_of_link : (plan : PlanModel) → IsPlan plan → (id : NodeId) (at : ℕ) → IsSome (entry_at plan.tree.domains id at)
     → (link : Option (NodeId × ℕ)) → link ≡ link_of plan.tree.domains id at
     → (link ≡ None) ↔ IsSomeAnd (entry_at plan.tree.domains id at) (λ e. e.how ≢ Refer)
-link_none plan is id at some link value =
+none_of_link plan is id at some link value =
     subst (λ l. (l ≡ None) ↔ IsSomeAnd (entry_at plan.tree.domains id at) (λ e. e.how ≢ Refer)) (sym value)
     (by_entry (entry_at plan.tree.domains id at) refl some)
   where
@@ -162,3 +177,13 @@ link_none plan is id at some link value =
     by_entry None there some = absurd (cc)
     by_entry (Some e) there some =
         way_none e.how e.range (frames_of plan.tree.domains id) (λ refers. (is.linked id at e there refers).0)
+
+-- a link that is read from its row is none exactly where the entry is no reference
+pub link_none : (inside plan : PlanModel) → inside ≡ plan → IsPlan inside → (id : NodeId) (at : ℕ) → IsSome (entry_at plan.tree.domains id at)
+    → (row links : List (Option (NodeId × ℕ))) → row ≡ get_or inside.links id.0 row → links ≡ row
+    → (get_or links at None ≡ None) ↔ IsSomeAnd (entry_at plan.tree.domains id at) (λ e. e.how ≢ Refer)
+link_none inside plan same is id at some row links read all =
+    let here : IsSome (entry_at inside.tree.domains id at) = subst (λ (p : PlanModel). IsSome (entry_at p.tree.domains id at)) (sym same) some in
+    subst (λ (p : PlanModel). (get_or links at None ≡ None) ↔ IsSomeAnd (entry_at p.tree.domains id at) (λ e. e.how ≢ Refer)) same
+    (none_of_link inside is id at here (get_or links at None)
+    (ap (λ (xs : List (Option (NodeId × ℕ))). get_or xs at None) all ∙ link_of_row inside is id at here row read))

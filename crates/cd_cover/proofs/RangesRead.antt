@@ -15,7 +15,6 @@ use Rattle.cd_tree.specs.Operations.{op_reads}
 use Rattle.cd_tree.specs.TreeModel.{FitsItems, NamesChildren}
 use Rattle.cd_tree.specs.Domains.{Node, Members, put_first, members_by, body_by, node_of, node_numbers}
 use Rattle.cd_tree.specs.Meaning.{in_entries, node_reads, body_reads, member_reads}
-use Rattle.cd_tree.specs.Laws.{NestedViewFollows, ParentsComeFirst, PathsGoDown}
 use Rattle.cd_cover.specs.OuterLaws.{EntriesAreRead}
 use Rattle.cd_cover.proofs.Downward.{Known, known_of, view_in, domain_behind, Child, child_of_group, downward, contains_first, contains_cases, contains_none, IsNamed, numbers_cases}
 
@@ -81,9 +80,9 @@ reads_below domains all =
           (rest child.id child.child.domain child.child.later child.child.there below last here child.among k entry is p inside))
     ])
 
-pub entries_are_read : NestedViewFollows → ParentsComeFirst → PathsGoDown → EntriesAreRead
-entries_are_read views parents paths tree is id below d at entry found among here p inside =
-    let all : Known tree.domains = known_of views parents paths tree is in
+pub entries_are_read : EntriesAreRead
+entries_are_read tree is id below d at entry found among here p inside =
+    let all : Known tree.domains = known_of tree is in
     let top = domain_behind tree.domains id d found in
     let last = entry_in (slice_get tree.domains below.0) here in
     ap (λ (v : Node). node_reads v p) (top.2 all)

@@ -1,5 +1,5 @@
 -- The steps of the loops over entries, members and items.
-use Rattle.std.proofs.Common.{◌≡◌, ℕ, ◌+◌, ◌<◌, ◌≤◌, Bool, true, false, ◌&&◌, ◌||◌, ◌==◌, List, ◌∷◌, Option, None, Some, IsSomeAnd, length, get_or, drop, slice_get, refl, sym, ap, ◌∙◌, subst, add-one}
+use Rattle.std.proofs.Common.{◌≡◌, ℕ, ◌+◌, ◌<◌, ◌≤◌, true, false, ◌&&◌, ◌||◌, ◌==◌, List, ◌∷◌, Option, None, Some, IsSomeAnd, length, get_or, drop, slice_get, refl, sym, ap, ◌∙◌, subst, add-one}
 use Rattle.std.specs.List.{list_any}
 use Rattle.std.proofs.lemmas.List.{drop_more, drop_all}
 use Rattle.std.proofs.lemmas.Bool.{and_right}
@@ -7,6 +7,8 @@ use Rattle.cd_base.specs.declared.place.Place.{Place}
 use Rattle.cd_base.specs.declared.place.Range.{Range}
 use Rattle.cd_base.specs.Words.{PlaceSet, in_range}
 use Rattle.cd_base.specs.Places.{IsLeast}
+use Rattle.cd_base.proofs.ListLemmas.{some_and}
+use Rattle.cd_base.proofs.BoolLemmas.{and-or}
 use Rattle.cd_tree.specs.declared.domain.NodeId.{NodeId}
 use Rattle.cd_tree.specs.declared.domain.Item.{Item}
 use Rattle.cd_tree.specs.declared.domain.Item.TheVariants.{Run, Group}
@@ -21,7 +23,7 @@ use Rattle.cd_tree.specs.Laws.{NestedViewFollows}
 use Rattle.cd_cover.specs.Least.{earlier_of}
 use Rattle.cd_cover.specs.Links.{is_kept, holds_range, holder, has_member, written_before}
 use Rattle.cd_cover.proofs.LeastLemmas.{Leaves, leaves_all, leaves_less, leaves_none}
-use Rattle.cd_cover.proofs.Views.{some_and, has_member-members_by}
+use Rattle.cd_cover.proofs.Views.{has_member-members_by}
 
 -- ---- entries
 
@@ -37,10 +39,6 @@ holder_behind r entries i d within kept = rw (drop_more entries i d within, kept
 
 -- ---- members
 
-and-or : (a b c : Bool) → ((a && b) || (a && c)) ≡ (a && (b || c))
-and-or true b c = refl
-and-or false b c = refl
-
 -- the places of a range that members write
 abbrev pub by_members : Range → (NodeId → Option Node) → List NodeId → PlaceSet
 by_members r find ids q = in_range r q && member_writes (members_by find ids) q
@@ -55,7 +53,7 @@ first_member : (r : Range) (found : Option Node) (rest : Members) (x : Option Pl
     → (S : PlaceSet) × IsLeast S x × ((q : Place) → (S q || (in_range r q && member_writes rest q)) ≡ left q)
 first_member r None rest x left same here = absurd here
 first_member r (Some d) rest x left same here =
-    (λ q. in_range r q && node_writes d q, here, λ q. and-or (in_range r q) (node_writes d q) (member_writes rest q) ∙ same q)
+    (λ q. in_range r q && node_writes d q, here, λ q. sym (and-or (in_range r q) (node_writes d q) (member_writes rest q)) ∙ same q)
 
 pub member_less : (r : Range) (find : NodeId → Option Node) (ids : List NodeId) (i : ℕ) (d : NodeId) (found x : Option Place) (whole : PlaceSet)
     → i < length ids
@@ -87,7 +85,7 @@ run_less domains at r child found x op rest all here left =
     record {
       least = leaves_less found x (λ q. in_range r q && in_range (op_writes op) q) (by_items r child (node_of domains) rest)
           (by_items r child (node_of domains) (Run op ∷ rest)) (by_items r child (node_of domains) all) left.least
-          (λ q. and-or (in_range r q) (in_range (op_writes op) q) (written_before child (body_by (node_of domains) rest) q)) here;
+          (λ q. sym (and-or (in_range r q) (in_range (op_writes op) q) (written_before child (body_by (node_of domains) rest) q))) here;
       fits = left.fits.2;
     }
 
@@ -102,7 +100,7 @@ group_less domains at r child found x ids rest all not here left =
       least = leaves_less found x (by_members r (node_of domains) ids) (by_items r child (node_of domains) rest)
           (by_items r child (node_of domains) (Group ids ∷ rest)) (by_items r child (node_of domains) all) left.least
           (λ q.
-          and-or (in_range r q) (member_writes (members_by (node_of domains) ids) q) (written_before child (body_by (node_of domains) rest) q)
+          sym (and-or (in_range r q) (member_writes (members_by (node_of domains) ids) q) (written_before child (body_by (node_of domains) rest) q))
           ∙ rw absent)
           here;
       fits = left.fits.3;

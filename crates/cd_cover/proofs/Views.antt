@@ -1,22 +1,14 @@
 -- The domains of a program, each by its number: that it is there, what its view is, and what fits it.
-use Rattle.std.proofs.Common.{◌≡◌, ℕ, zero, suc, ◌+◌, ◌<◌, ◌==◌, ◌||◌, List, [], ◌∷◌, ◌++◌, map, take, Option, None, Some, IsSomeAnd, All, length, slice_get, get_or, refl, sym, ap, ◌∙◌, subst, zero-add, arith}
+use Rattle.std.proofs.Common.{◌≡◌, ℕ, zero, suc, ◌+◌, ◌<◌, ◌==◌, ◌||◌, List, [], ◌∷◌, ◌++◌, map, take, Option, None, Some, IsSomeAnd, length, slice_get, get_or, refl, sym, ap, ◌∙◌, subst, zero-add, arith}
 use Rattle.std.specs.List.{list_any}
 use Rattle.std.proofs.lemmas.List.{take_more, map_push}
-use Rattle.std.proofs.lemmas.List.Elements.{All-nil, All-cons}
 use Rattle.std.proofs.lemmas.Option.{slice_get_within, get_or_from_slice_get}
+use Rattle.cd_base.proofs.ListLemmas.{some_of}
 use Rattle.cd_tree.specs.declared.domain.NodeId.{NodeId}
 use Rattle.cd_tree.specs.declared.domain.Domain.{Domain}
-use Rattle.cd_tree.specs.declared.kinds.KindName.{KindName}
-use Rattle.cd_tree.specs.TreeModel.{TreeModel, IsTree, FitsDomain, EachFits, NamesChildren}
+use Rattle.cd_tree.specs.TreeModel.{NamesChildren}
 use Rattle.cd_tree.specs.Domains.{Node, Members, members_by, put_first, nodes_from, node_of, number_of}
 use Rattle.cd_cover.specs.Links.{has_member}
-
-pub some_of : {A : Type 0} (o : Option A) (P : A → Type 0) → IsSomeAnd o P → (x : A) × (o ≡ Some x) × P x
-some_of None P h = absurd h
-some_of (Some x) P h = (x, refl, h)
-
-pub some_and : {A : Type 0} (o : Option A) (P : A → Type 0) (x : A) → o ≡ Some x → P x → IsSomeAnd o P
-some_and o P x is h = subst (λ p. IsSomeAnd p P) (sym is) h
 
 -- one element more of a list that is mapped from the front on
 pub map_more : {A B : Type 0} (f : A → B) (xs : List A) (k : ℕ) (x : A) → slice_get xs k ≡ Some x → (so more : List B) (y : B)
@@ -40,42 +32,6 @@ pub view_number : (domains : List Domain) (id : NodeId) (domain : Domain) → sl
     → IsSomeAnd (node_of domains id) (λ d. number_of d ≡ id.0)
 view_number domains id domain there =
     subst (λ n. IsSomeAnd (node_of domains id) (λ d. number_of d ≡ n)) (zero-add id.0) (view_at 0 domains id.0 domain there)
-
-pub length-nodes_from : (at : ℕ) (domains : List Domain) → length (nodes_from at domains) ≡ length domains
-length-nodes_from at [] = refl
-length-nodes_from at (first ∷ rest) = ap suc (length-nodes_from (suc at) rest)
-
--- the domain of a number in the list
-pub domain_here : (domains : List Domain) (n : ℕ) → n < length domains → (domain : Domain) × (slice_get domains n ≡ Some domain)
-domain_here [] n within = absurd (omega arith)
-domain_here (first ∷ rest) zero within = (first, refl)
-domain_here (first ∷ rest) (suc n) within = domain_here rest n (omega arith)
-
--- each domain of a program fits
-fits_at : (kinds : List KindName) (all : List Domain) (at : ℕ) (domains : List Domain) (k : ℕ) (domain : Domain)
-    → EachFits kinds all at domains → slice_get domains k ≡ Some domain → FitsDomain kinds all (at + k) domain
-fits_at kinds all at [] k domain each there = absurd (cc)
-fits_at kinds all at (first ∷ rest) zero domain (here, each) there =
-    let same : first ≡ domain = cc in
-    let sum : at + 0 ≡ at = omega arith in
-    rw (sum, ← same) here
-fits_at kinds all at (first ∷ rest) (suc k) domain (here, each) there =
-    let sum : at + suc k ≡ suc at + k = omega arith in
-    rw sum (fits_at kinds all (suc at) rest k domain each there)
-
-pub tree_fits : (tree : TreeModel) → IsTree tree → (id : NodeId) (domain : Domain) → slice_get tree.domains id.0 ≡ Some domain
-    → FitsDomain tree.kinds tree.domains id.0 domain
-tree_fits tree is id domain there =
-    subst (λ n. FitsDomain tree.kinds tree.domains n domain) (zero-add id.0)
-    (fits_at tree.kinds tree.domains 0 tree.domains id.0 domain is.each there)
-
--- the members that a group names are there
-pub members_here : (domains : List Domain) (at : ℕ) (ids : List NodeId) → NamesChildren domains at ids
-    → All (λ (id : NodeId). id.0 < length domains) ids
-members_here domains at [] named = All-nil (λ (id : NodeId). id.0 < length domains)
-members_here domains at (id ∷ ids) (above, child, named) =
-    let found = some_of (slice_get domains id.0) (λ d. d.parent ≡ Some (record { 0 = at })) child in
-    All-cons (λ (i : NodeId). i.0 < length domains) id ids (slice_get_within domains id.0 found.0 found.1) (members_here domains at ids named)
 
 has_member-put_first : (n m : ℕ) (found : Option Node) (rest : Members) → IsSomeAnd found (λ d. number_of d ≡ m)
     → has_member n (put_first found rest) ≡ ((m == n) || has_member n rest)

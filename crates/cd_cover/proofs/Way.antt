@@ -4,6 +4,8 @@ use Rattle.cd_base.specs.declared.place.Place.{Place}
 use Rattle.cd_base.specs.declared.place.Range.{Range}
 use Rattle.cd_base.specs.Words.{PlaceSet, in_range}
 use Rattle.cd_base.specs.Places.{IsLeast}
+use Rattle.cd_base.proofs.LeastLemmas.{IsLeast-of}
+use Rattle.cd_base.proofs.BoolLemmas.{and-or}
 use Rattle.cd_tree.specs.declared.domain.NodeId.{NodeId}
 use Rattle.cd_tree.specs.declared.domain.How.{How}
 use Rattle.cd_tree.specs.declared.domain.How.TheVariants.{Copy, Refer, Regen}
@@ -16,7 +18,7 @@ use Rattle.cd_cover.specs.Least.{earlier_of}
 use Rattle.cd_cover.specs.Laws.{FramesGoUp}
 use Rattle.cd_cover.specs.Links.{Frame, frame_over, frames_of, by_way, by_holder, holder, written_before, written_since}
 use Rattle.cd_cover.specs.Seeking.{sought_above, written_on_the_way}
-use Rattle.cd_cover.proofs.LeastLemmas.{least_same, least_or}
+use Rattle.cd_cover.proofs.LeastLemmas.{least_or}
 
 -- what is written above a domain, where the way goes on there
 abbrev above : Option Range → List Frame → PlaceSet
@@ -36,10 +38,6 @@ holder_above : (h : Option (ℕ × Entry)) (r : Range) (frames : List Frame) (p 
 holder_above None r frames p = refl
 holder_above (Some (at, entry)) r frames p = way_above entry.how r entry.range frames p
 
-and-or : (a b c : Bool) → (a && (b || c)) ≡ ((a && b) || (a && c))
-and-or true b c = refl
-and-or false b c = refl
-
 and-or-false : (a b c : Bool) → c ≡ false → (a && b) ≡ (a && (b || c))
 and-or-false true true c e = refl
 and-or-false true false c e = sym e
@@ -54,7 +52,7 @@ since own sought frame frames next q is =
 way_ends : (own sought : Range) (frame : Frame) (frames : List Frame) (here : Option Place) → sought_above sought frame.entries ≡ None
     → IsLeast (λ q. in_range own q && frame.before q) here → IsLeast (written_on_the_way own sought (frame ∷ frames)) here
 way_ends own sought frame frames here is least =
-    least_same (λ q. in_range own q && frame.before q) (written_on_the_way own sought (frame ∷ frames)) here
+    IsLeast-of (λ q. in_range own q && frame.before q) (written_on_the_way own sought (frame ∷ frames)) here
     (λ q. and-or-false (in_range own q) (frame.before q) false refl ∙ sym (since own sought frame frames None q is))
     least
 
@@ -65,7 +63,7 @@ way_goes_on : (own sought outer : Range) (frame : Frame) (frames : List Frame) (
 way_goes_on own sought outer frame frames here beyond is least rest =
     let S : PlaceSet = λ q. in_range own q && frame.before q in
     let T : PlaceSet = written_on_the_way own outer frames in
-    least_same (λ q. S q || T q) (written_on_the_way own sought (frame ∷ frames)) (earlier_of here beyond)
+    IsLeast-of (λ q. S q || T q) (written_on_the_way own sought (frame ∷ frames)) (earlier_of here beyond)
     (λ q.
     sym
     (since own sought frame frames (Some outer) q is

@@ -61,7 +61,7 @@ pub(crate) fn seek_above(range: Range, entries: &[Entry]) -> Option<Range>
     }
 }
 
-// Where the way goes on behind a holder.
+// Where the way goes on after a holder.
 fn further(entry: Entry, range: Range) -> Option<Range>
     ensures { result ≡ by_way entry.how None (λ outer. Some outer) (Some range) entry.range }
 {

@@ -4,18 +4,20 @@ ghost use Rattle.cd_tree.specs.Limits.{entries_limit};
 ghost use Rattle.cd_tree.specs.Domains.{node_of, nodes_from, body_of};
 ghost use Rattle.cd_tree.specs.Meaning.{entry_need, body_need, node_need};
 ghost use Rattle.cd_tree.specs.TreeModel.{IsTree};
-ghost use Rattle.cd_cover.specs.Needs.{own_need, most_own, AreSmall, HoldsFrom};
+ghost use Rattle.cd_cover.specs.Needs.{own_need, most_entry, most_own, AreSmall, HoldsFrom, item_need, CanAdd};
 
 use cd_base::NoMemory;
+use cd_tree::limits::BLOCK_WORDS;
 use cd_tree::{Entry, How, Item, NodeId, Tree};
 use std::alloc::Global;
 
 // The blocks of one entry; a reference takes one more, since it may begin inside one.
 fn entry_blocks(entry: Entry) -> u64
     ensures value { result ≡ entry_need entry }
-    ensures small { result ≤ 67108865 }
+    ensures small { result ≤ most_entry }
 {
-    let blocks = (u64::from(entry.range.high.saturating_sub(entry.range.low)) + 63) / 64;
+    let words = u64::from(entry.range.high.saturating_sub(entry.range.low));
+    let blocks = (words + u64::from(BLOCK_WORDS - 1)) / u64::from(BLOCK_WORDS);
     match entry.how {
         How::Copy | How::Regen(_) => blocks,
         How::Refer => blocks + 1,
@@ -61,6 +63,17 @@ fn members_blocks(needs: &[u64], members: &[NodeId]) -> u64
     all
 }
 
+// What the members of an item need together; an operation needs nothing.
+fn item_blocks(needs: &[u64], item: &Item) -> u64
+    requires { CanAdd needs.now item.now }
+    ensures { result ≡ item_need needs.now item.now }
+{
+    match item {
+        Item::Run(_) => 0,
+        Item::Group(members) => members_blocks(needs, members.items()),
+    }
+}
+
 // The most that one group of a domain needs.
 fn groups_blocks(tree: &Tree, needs: &[u64], node: NodeId) -> u64
     requires tree { IsTree tree.now }
@@ -73,12 +86,7 @@ fn groups_blocks(tree: &Tree, needs: &[u64], node: NodeId) -> u64
     cd_tree::laws::the_nested_view_follows_the_list();
     let mut most: u64 = 0;
     for item in tree.node(node).items.items() {
-        match item {
-            Item::Run(_) => {}
-            Item::Group(members) => {
-                most = most.max(members_blocks(needs, members.items()));
-            }
-        }
+        most = most.max(item_blocks(needs, item));
     }
     most
 }

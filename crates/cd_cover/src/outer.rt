@@ -95,7 +95,7 @@ fn first_leading(first: u32, links: &[Option<(NodeId, u32)>], from: u32) -> Opti
     None
 }
 
-// The next outer reference from a position on, and the position behind it.
+// The next outer reference from a position on, and the position after it.
 fn next_leading(first: u32, links: &[Links], from: Position) -> Option<((NodeId, u32), Position)>
     requires { IsWithin links.now from }
     ensures next { NextPosition links.now first from result }

@@ -1,3 +1,4 @@
+// The call that plans a program, or tells its first flaw.
 ghost use Rattle.std.specs.Prelude.{IfOk};
 ghost use Rattle.cd_tree.specs.Domains.{root_of};
 ghost use Rattle.cd_tree.specs.Meaning.{IsDisjoint};
@@ -8,6 +9,7 @@ use crate::Plan;
 use crate::flaws::first_flaw;
 use crate::links::all_links;
 use crate::needs::needs_of;
+use crate::program::Program;
 use cd_base::NoMemory;
 use cd_foot::Footprints;
 use cd_tree::limits::MOST_NEED;
@@ -42,7 +44,7 @@ fn planned<'a>(
     cd_tree::laws::the_nested_view_follows_the_list();
     cd_tree::laws::each_domain_answers_for_itself();
     prove!(0 < tree.count());
-    if let Some(refusal) = first_flaw(alloc, tree, feet)? {
+    if let Some(refusal) = first_flaw(alloc, &Program { tree, feet })? {
         return Ok(Err(refusal));
     }
     let needs = needs_of(alloc, tree)?;

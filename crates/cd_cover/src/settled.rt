@@ -1,3 +1,4 @@
+// Plans: programs whose static questions are settled, and what a run asks of them.
 ghost use Rattle.std.specs.Prelude.{◌≡◌, ◌≢◌, ◌<◌, ◌↔◌, None, length, IsSome, IsSomeAnd};
 ghost use Rattle.cd_tree.specs.declared.domain.How.TheVariants.{Refer};
 ghost use Rattle.cd_tree.specs.Domains.{node_of};
@@ -7,8 +8,8 @@ ghost use Rattle.cd_cover.specs.Links.{link_of};
 ghost use Rattle.cd_cover.specs.Outer.{outer_references};
 ghost use Rattle.cd_cover.specs.Plans.{IsPlan};
 
+use crate::OuterReferences;
 use crate::links::Links;
-use crate::{OuterReferences, laws};
 use cd_foot::Footprints;
 use cd_tree::{NodeId, Tree};
 use std::marker::Model;
@@ -74,8 +75,6 @@ impl<'a> Plan<'a> {
         requires { node.0 < length self.now.tree.domains }
         ensures { IsSomeAnd (node_of self.now.tree.domains node) (λ d. result ≡ node_need d) }
     {
-        cd_tree::laws::the_nested_view_follows_the_list();
-        cd_tree::laws::the_root_needs_the_most();
         self.needs[node.0 as usize] as u32
     }
 
@@ -95,9 +94,6 @@ impl<'a> Plan<'a> {
         requires { node.0 < length self.now.tree.domains }
         ensures { IsSomeAnd (node_of self.now.tree.domains node) (λ d. result ≡ outer_references d) }
     {
-        laws::outer_references_lead_out();
-        cd_tree::laws::the_nested_view_follows_the_list();
-        cd_tree::laws::subtrees_are_slices();
         cd_tree::laws::children_fill_slices();
         let end = self.tree.end_of(node);
         OuterReferences::of(&self.links, node.0, end - node.0)

@@ -3,7 +3,7 @@ use Rattle.std.proofs.Common.{◌≡◌, ℕ, zero, suc, ◌+◌, ◌-◌, ◌<�
 use Rattle.std.specs.Prelude.{slice_get}
 use Rattle.std.proofs.lemmas.List.{get_or-set_same, get_or-set_other, length-set, length-append, replicate-append-replicate, get_or_append_left, get_or-append-add, get_or_push, get_or-replicate, length-replicate}
 use Rattle.std.proofs.lemmas.Option.{slice_get-get_or, slice_get_past}
-use Rattle.std.proofs.lemmas.Bool.{eq-eqb, cases_Bool, and_parts, and_from, cases_lt}
+use Rattle.std.proofs.lemmas.Bool.{eq-eqb, and_from, cases_lt, cond-true, cond-false, false_from_ne_true}
 use Rattle.std.proofs.lemmas.Bool.Decides.{nat_tests}
 use Rattle.cd_base.specs.declared.place.Place.{Place}
 use Rattle.cd_base.specs.declared.place.Range.{Range}
@@ -11,42 +11,13 @@ use Rattle.cd_base.specs.Places.{is_before}
 use Rattle.cd_base.specs.Words.{same_place, in_range}
 use Rattle.cd_tree.specs.Operations.{length_of}
 use Rattle.cd_field.specs.declared.flat_words.Slot.{Slot}
+use Rattle.cd_base.proofs.PlaceLemmas.{Inside, inside_from, inside_to}
+use Rattle.cd_base.proofs.BoolLemmas.{by_test}
+use Rattle.cd_base.proofs.ListLemmas.{slice_get-set_same, slice_get-set_other}
 use Rattle.cd_field.proofs.PlaceLemmas.{same_place-eq}
 use Rattle.cd_field.specs.Flat.{index_of, item_by, is_lost, slot_at, no_slot, IsInOrder, HasRoom, IsWhole}
 
--- ---- choices
-
-pub by_test : {P : Type 0} (b : Bool) → (b ≡ true → P) → (b ≡ false → P) → P
-by_test {P} b when unless = elim (cases_Bool b) [ inl e ↦ when e | inr e ↦ unless e ]
-
-pub not_true : (b : Bool) → (b ≡ true → ⊥) → b ≡ false
-not_true b refuted = by_test b (λ e. absurd (refuted e)) (λ e. e)
-
-pub chosen : {A : Type 0} (b : Bool) (x y : A) → b ≡ true → cond b x y ≡ x
-chosen {A} b x y e = rw e refl
-
-pub other : {A : Type 0} (b : Bool) (x y : A) → b ≡ false → cond b x y ≡ y
-other {A} b x y e = rw e refl
-
 -- ---- ranges
-
-pub record Inside (r : Range) (p : Place) : Type 0 where
-  pub region : r.region ≡ p.region
-  pub low : r.low ≤ p.index
-  pub high : p.index < r.high
-
-pub inside_from : (r : Range) (p : Place) → in_range r p ≡ true → Inside r p
-inside_from r p h =
-    let parts : ((r.region == p.region) ≡ true) × ((nat_le r.low p.index && nat_lt p.index r.high) ≡ true) = and_parts _ _ h in
-    let ends : (nat_le r.low p.index ≡ true) × (nat_lt p.index r.high ≡ true) = and_parts _ _ parts.1 in
-    record { region = grind (arith, nat_tests); low = grind (arith, nat_tests); high = grind (arith, nat_tests) }
-
-pub inside_to : (r : Range) (p : Place) → Inside r p → in_range r p ≡ true
-inside_to r p h =
-    let region : (r.region == p.region) ≡ true = eq-eqb _ _ h.region in
-    let low : nat_le r.low p.index ≡ true = (let l : r.low ≤ p.index = h.low in grind (arith, nat_tests)) in
-    let high : nat_lt p.index r.high ≡ true = (let l : p.index < r.high = h.high in grind (arith, nat_tests)) in
-    and_from _ _ region (and_from _ _ low high)
 
 abbrev ends_before : Range → Place → Bool
 ends_before r p = nat_lt r.region p.region || ((r.region == p.region) && nat_le r.high p.index)
@@ -81,31 +52,22 @@ neither_says a b l h i e f = (grind (arith, nat_tests), grind (arith, nat_tests)
 
 -- what ends before a place has it not, and so has what is before that
 pub ended : (r : Range) (p : Place) → ends_before r p ≡ true → in_range r p ≡ false
-ended r p e = not_true _ (λ t.
+ended r p e = false_from_ne_true _ (λ t.
     let i : Inside r p = inside_from r p t in
     elim (ends_says r.region p.region r.high p.index e) [
       | inl l ↦ (let region : r.region ≡ p.region = i.region in omega arith)
       | inr m ↦ (let high : p.index < r.high = i.high in omega arith)
     ])
 
+ends_earlier : (a b c high low end i : ℕ) → (nat_lt a b || ((a == b) && nat_lt high low)) ≡ true → low ≤ end
+    → (nat_lt b c || ((b == c) && nat_le end i)) ≡ true → (nat_lt a c || ((a == c) && nat_le high i)) ≡ true
+ends_earlier a b c high low end i behind proper e = grind (arith, nat_tests)
+
 pub ended_earlier : (r s : Range) (p : Place) → is_before r s ≡ true → s.low ≤ s.high → ends_before s p ≡ true → in_range r p ≡ false
-ended_earlier r s p behind proper e = not_true _ (λ t.
-    let i : Inside r p = inside_from r p t in
-    let region : r.region ≡ p.region = i.region in
-    let high : p.index < r.high = i.high in
-    elim (before_says r.region s.region r.high s.low behind) [
-      | inl l ↦ elim (ends_says s.region p.region s.high p.index e) [
-        | inl m ↦ omega arith
-        | inr m ↦ omega arith
-      ]
-      | inr l ↦ elim (ends_says s.region p.region s.high p.index e) [
-        | inl m ↦ omega arith
-        | inr m ↦ omega arith
-      ]
-    ])
+ended_earlier r s p behind proper e = ended r p (ends_earlier r.region s.region p.region r.high s.low s.high p.index behind proper e)
 
 pub begun : (r : Range) (p : Place) → begins_behind r p ≡ true → in_range r p ≡ false
-begun r p e = not_true _ (λ t.
+begun r p e = false_from_ne_true _ (λ t.
     let i : Inside r p = inside_from r p t in
     let region : r.region ≡ p.region = i.region in
     let low : r.low ≤ p.index = i.low in
@@ -114,21 +76,12 @@ begun r p e = not_true _ (λ t.
       | inr m ↦ omega arith
     ])
 
+begins_later : (a b c begin high low i : ℕ) → (nat_lt a b || ((a == b) && nat_lt high low)) ≡ true → begin ≤ high
+    → (nat_lt c a || ((a == c) && nat_lt i begin)) ≡ true → (nat_lt c b || ((b == c) && nat_lt i low)) ≡ true
+begins_later a b c begin high low i behind proper e = grind (arith, nat_tests)
+
 pub begun_later : (r s : Range) (p : Place) → is_before r s ≡ true → r.low ≤ r.high → begins_behind r p ≡ true → in_range s p ≡ false
-begun_later r s p behind proper e = not_true _ (λ t.
-    let i : Inside s p = inside_from s p t in
-    let region : s.region ≡ p.region = i.region in
-    let low : s.low ≤ p.index = i.low in
-    elim (before_says r.region s.region r.high s.low behind) [
-      | inl l ↦ elim (begins_says r.region p.region r.low p.index e) [
-        | inl m ↦ omega arith
-        | inr m ↦ omega arith
-      ]
-      | inr l ↦ elim (begins_says r.region p.region r.low p.index e) [
-        | inl m ↦ omega arith
-        | inr m ↦ omega arith
-      ]
-    ])
+begun_later r s p behind proper e = begun s p (begins_later r.region s.region p.region r.low r.high s.low p.index behind proper e)
 
 pub covered : (r : Range) (p : Place) → ends_before r p ≡ false → begins_behind r p ≡ false → in_range r p ≡ true
 covered r p e f =
@@ -136,7 +89,7 @@ covered r p e f =
     inside_to r p (record { region = n.0; low = n.1; high = n.2 })
 
 pub apart_behind : (r s : Range) (p : Place) → is_before r s ≡ true → in_range r p ≡ true → in_range s p ≡ false
-apart_behind r s p behind h = not_true _ (λ t.
+apart_behind r s p behind h = false_from_ne_true _ (λ t.
     let i : Inside r p = inside_from r p h in
     let j : Inside s p = inside_from s p t in
     let here : r.region ≡ p.region = i.region in
@@ -155,16 +108,16 @@ pub index_miss : (slots : List Slot) (p : Place) → ((k : ℕ) → k < length s
     → index_of slots p ≡ None
 index_miss [] p miss = refl
 index_miss (slot ∷ slots) p miss =
-    other (in_range slot.range p) _ _ (miss 0 (omega arith)) ∙ index_miss slots p (λ k short. miss (suc k) (omega arith))
+    cond-false (in_range slot.range p) _ _ (miss 0 (omega arith)) ∙ index_miss slots p (λ k short. miss (suc k) (omega arith))
 
 -- a place stands where the first slot that has it says
 pub index_hit : (slots : List Slot) (p : Place) (k : ℕ) → k < length slots → in_range (slot_at slots k).range p ≡ true
     → ((j : ℕ) → j < k → in_range (slot_at slots j).range p ≡ false)
     → index_of slots p ≡ Some ((slot_at slots k).first + (p.index - (slot_at slots k).range.low))
 index_hit [] p k short hit miss = absurd (omega arith)
-index_hit (slot ∷ slots) p zero short hit miss = chosen (in_range slot.range p) _ _ hit
+index_hit (slot ∷ slots) p zero short hit miss = cond-true (in_range slot.range p) _ _ hit
 index_hit (slot ∷ slots) p (suc k) short hit miss =
-    other (in_range slot.range p) _ _ (miss 0 (omega arith))
+    cond-false (in_range slot.range p) _ _ (miss 0 (omega arith))
     ∙ index_hit slots p k (omega arith) hit (λ j before. miss (suc j) (omega arith))
 
 -- the slot that says where a place stands
@@ -178,9 +131,9 @@ pub index_found : (slots : List Slot) (p : Place) (i : ℕ) → index_of slots p
 index_found [] p i e = absurd (cc)
 index_found (slot ∷ slots) p i e =
     by_test (in_range slot.range p)
-    (λ t. let here : Some (slot.first + (p.index - slot.range.low)) ≡ Some i = sym (chosen (in_range slot.range p) _ _ t) ∙ e in
+    (λ t. let here : Some (slot.first + (p.index - slot.range.low)) ≡ Some i = sym (cond-true (in_range slot.range p) _ _ t) ∙ e in
     record { k = 0; short = omega arith; has = t; is = cc })
-    (λ f. let later : Found slots p i = index_found slots p i (sym (other (in_range slot.range p) _ _ f) ∙ e) in
+    (λ f. let later : Found slots p i = index_found slots p i (sym (cond-false (in_range slot.range p) _ _ f) ∙ e) in
     record { k = suc later.k; short = (let s : later.k < length slots = later.short in omega arith); has = later.has; is = later.is })
 
 -- no two places stand at one index
@@ -239,7 +192,7 @@ pub index_there : (slots : List Slot) (p : Place) (middle : ℕ) → IsInOrder s
     → Some ((slot_at slots middle).first + (p.index - (slot_at slots middle).range.low)) ≡ index_of slots p
 index_there slots p middle order short e f =
     let has : in_range (slot_at slots middle).range p ≡ true = covered (slot_at slots middle).range p e f in
-    sym (index_hit slots p middle short has (λ j before. not_true _ (λ t.
+    sym (index_hit slots p middle short has (λ j before. false_from_ne_true _ (λ t.
     let not : in_range (slot_at slots middle).range p ≡ false =
     apart_behind (slot_at slots j).range (slot_at slots middle).range p (order.order j middle before short) t in
     cc)))
@@ -251,7 +204,7 @@ index_in_slot slots p k slot order short is has =
     let P : Slot → Type 0 = λ s. Some (s.first + (p.index - s.range.low)) ≡ index_of slots p in
     let Q : Slot → Type 0 = λ s. in_range s.range p ≡ true in
     let here : in_range (slot_at slots k).range p ≡ true = subst Q is has in
-    subst P (sym is) (sym (index_hit slots p k short here (λ j before. not_true _ (λ t.
+    subst P (sym is) (sym (index_hit slots p k short here (λ j before. false_from_ne_true _ (λ t.
     let not : in_range (slot_at slots k).range p ≡ false =
     apart_behind (slot_at slots j).range (slot_at slots k).range p (order.order j k before short) t in
     cc))))
@@ -295,28 +248,10 @@ stands_within {A} slots items p i e some =
     let P : Option ℕ → Type 0 = λ o. IsSome (item_by items o) in
     item_there items i (subst P e some)
 
-item_same : {A : Type 0} (items : List A) (i : ℕ) (item : A) → i < length items → slice_get (set items i item) i ≡ Some item
-item_same {A} items i item short =
-    let long : i < length (set items i item) = omega (arith, length-set items i item) in
-    slice_get-get_or (set items i item) i item long ∙ ap (λ (v : A). Some v) (get_or-set_same items i item item short)
-
-item_apart : {A : Type 0} (items : List A) (i j : ℕ) (item : A) → j ≢ i → slice_get (set items i item) j ≡ slice_get items j
-item_apart {A} items i j item apart =
-    elim (cases_lt j (length items)) [
-      | inl l ↦
-          let long : j < length (set items i item) = omega (arith, length-set items i item) in
-          slice_get-get_or (set items i item) j item long
-          ∙ ap (λ (v : A). Some v) (get_or-set_other items i j item item apart)
-          ∙ sym (slice_get-get_or items j item l)
-      | inr l ↦
-          let past : length (set items i item) ≤ j = omega (arith, length-set items i item) in
-          slice_get_past (set items i item) j past ∙ sym (slice_get_past items j l)
-    ]
-
 item_other : {A : Type 0} (items : List A) (i : ℕ) (item : A) (o : Option ℕ) → (o ≡ Some i → ⊥)
     → item_by (set items i item) o ≡ item_by items o
 item_other {A} items i item None apart = refl
-item_other {A} items i item (Some j) apart = item_apart items i j item (λ e. apart (ap (λ (n : ℕ). Some n) e))
+item_other {A} items i item (Some j) apart = slice_get-set_other items i j item (λ e. apart (ap (λ (n : ℕ). Some n) e))
 
 pub item_set : {A : Type 0} (slots : List Slot) (items : List A) (p q : Place) (i : ℕ) (item : A) → HasRoom slots (length items)
     → index_of slots p ≡ Some i → i < length items
@@ -324,10 +259,10 @@ pub item_set : {A : Type 0} (slots : List Slot) (items : List A) (p q : Place) (
 item_set {A} slots items p q i item own at_p short =
     by_test (same_place p q)
     (λ t. let at_q : index_of slots q ≡ Some i = sym (ap (index_of slots) (same_place-eq p q t)) ∙ at_p in
-    ap (item_by (set items i item)) at_q ∙ item_same items i item short
-    ∙ sym (chosen (same_place p q) (Some item) (item_by items (index_of slots q)) t))
+    ap (item_by (set items i item)) at_q ∙ slice_get-set_same items i item short
+    ∙ sym (cond-true (same_place p q) (Some item) (item_by items (index_of slots q)) t))
     (λ f. item_other items i item (index_of slots q) (λ at_q. let t : same_place p q ≡ true = index_one slots (length items) p q i own at_p at_q in cc)
-    ∙ sym (other (same_place p q) (Some item) (item_by items (index_of slots q)) f))
+    ∙ sym (cond-false (same_place p q) (Some item) (item_by items (index_of slots q)) f))
 
 pub lost_choice : (b lost : Bool) (o : Option Bool) → is_lost (if b then Some lost else o) ≡ (if b then lost else is_lost o)
 lost_choice true lost o = refl
@@ -344,16 +279,16 @@ pushed_old : (slots : List Slot) (slot : Slot) (q : Place) (i : ℕ) → index_o
 pushed_old [] slot q i e = absurd (cc)
 pushed_old (first ∷ slots) slot q i e =
     by_test (in_range first.range q)
-    (λ t. chosen (in_range first.range q) _ _ t ∙ sym (chosen (in_range first.range q) _ (index_of slots q) t) ∙ e)
-    (λ f. other (in_range first.range q) _ _ f ∙ pushed_old slots slot q i (sym (other (in_range first.range q) _ _ f) ∙ e))
+    (λ t. cond-true (in_range first.range q) _ _ t ∙ sym (cond-true (in_range first.range q) _ (index_of slots q) t) ∙ e)
+    (λ f. cond-false (in_range first.range q) _ _ f ∙ pushed_old slots slot q i (sym (cond-false (in_range first.range q) _ _ f) ∙ e))
 
 pushed_new : (slots : List Slot) (slot : Slot) (q : Place) → index_of slots q ≡ None
     → index_of (slots ++ slot ∷ []) q ≡ index_of (slot ∷ []) q
 pushed_new [] slot q e = refl
 pushed_new (first ∷ slots) slot q e =
     by_test (in_range first.range q)
-    (λ t. let no : Some (first.first + (q.index - first.range.low)) ≡ None = sym (chosen (in_range first.range q) _ _ t) ∙ e in absurd (cc))
-    (λ f. other (in_range first.range q) _ _ f ∙ pushed_new slots slot q (sym (other (in_range first.range q) _ _ f) ∙ e))
+    (λ t. let no : Some (first.first + (q.index - first.range.low)) ≡ None = sym (cond-true (in_range first.range q) _ _ t) ∙ e in absurd (cc))
+    (λ f. cond-false (in_range first.range q) _ _ f ∙ pushed_new slots slot q (sym (cond-false (in_range first.range q) _ _ f) ∙ e))
 
 kept_item : {A : Type 0} (items more : List A) (i : ℕ) (d : A) → i < length items → slice_get (items ++ more) i ≡ slice_get items i
 kept_item {A} items more i d short =
@@ -381,15 +316,15 @@ opened {A} slots items r item q own behind =
     by_option (index_of slots q)
     (λ none. by_test (in_range r q)
     (λ t. let at : index_of (slots ++ slot ∷ []) q ≡ Some (length items + (q.index - r.low)) =
-    pushed_new slots slot q none ∙ chosen (in_range r q) _ _ t in
+    pushed_new slots slot q none ∙ cond-true (in_range r q) _ _ t in
     let i : Inside r q = inside_from r q t in
     let low : r.low ≤ q.index = i.low in
     let high : q.index < r.high = i.high in
     ap (item_by all) at ∙ new_item items item (length_of r) (q.index - r.low) (omega arith)
-    ∙ sym (chosen (in_range r q) (Some item) (item_by items (index_of slots q)) t))
-    (λ f. let at : index_of (slots ++ slot ∷ []) q ≡ None = pushed_new slots slot q none ∙ other (in_range r q) _ _ f in
+    ∙ sym (cond-true (in_range r q) (Some item) (item_by items (index_of slots q)) t))
+    (λ f. let at : index_of (slots ++ slot ∷ []) q ≡ None = pushed_new slots slot q none ∙ cond-false (in_range r q) _ _ f in
     ap (item_by all) at ∙ sym (ap (item_by items) none)
-    ∙ sym (other (in_range r q) (Some item) (item_by items (index_of slots q)) f)))
+    ∙ sym (cond-false (in_range r q) (Some item) (item_by items (index_of slots q)) f)))
     (λ i at. let found : Found slots q i = index_found slots q i at in
     let here : Range = (slot_at slots found.k).range in
     let in_here : Inside here q = inside_from here q found.has in
@@ -400,7 +335,7 @@ opened {A} slots items r item q own behind =
     let not : in_range r q ≡ false = apart_behind here r q (behind found.k found.short) found.has in
     ap (item_by all) (pushed_old slots slot q i at) ∙ kept_item items (replicate (length_of r) item) i item (omega arith)
     ∙ sym (ap (item_by items) at)
-    ∙ sym (other (in_range r q) (Some item) (item_by items (index_of slots q)) not))
+    ∙ sym (cond-false (in_range r q) (Some item) (item_by items (index_of slots q)) not))
 
 slot_old : (slots : List Slot) (slot : Slot) (k : ℕ) → k < length slots → slot_at (slots ++ slot ∷ []) k ≡ slot_at slots k
 slot_old slots slot k short = get_or_append_left slots (slot ∷ []) no_slot k short

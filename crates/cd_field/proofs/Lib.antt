@@ -1,6 +1,6 @@
 mod PlaceLemmas
 mod StrikeLemmas
-mod RunLemmas
+pub mod RunLemmas
 mod WorkedRuns
 mod SlotRuns
 mod FlatLemmas

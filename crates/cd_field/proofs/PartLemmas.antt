@@ -1,5 +1,6 @@
 -- Lists of ranges in order, slots behind one another, and faults that strike.
 use Rattle.std.proofs.Common.{◌≡◌, ℕ, zero, suc, ◌+◌, ◌<◌, ◌≤◌, Bool, true, false, ◌&&◌, ◌||◌, nat_lt, ◌==◌, List, [], ◌∷◌, ◌++◌, length, get_or, All, Option, IsSome, arith, refl, subst, sym}
+use Rattle.std.proofs.lemmas.Bool.{cond-true, cond-false, or_left, or_right}
 use Rattle.std.proofs.lemmas.Bool.Decides.{nat_tests}
 use Rattle.std.proofs.lemmas.List.Elements.{All-head, All-tail}
 use Rattle.cd_base.specs.declared.place.Place.{Place}
@@ -11,15 +12,8 @@ use Rattle.cd_tree.specs.declared.document.Fault.{Fault}
 use Rattle.cd_tree.specs.Scripts.{strikes_at, struck}
 use Rattle.cd_field.specs.declared.flat_words.Slot.{Slot}
 use Rattle.cd_field.specs.Flat.{slot_at, range_at}
-use Rattle.cd_field.proofs.FlatLemmas.{by_test, chosen, other, each_pushed}
-
-or_right : (a b : Bool) → b ≡ true → (a || b) ≡ true
-or_right true b e = refl
-or_right false b e = e
-
-or_left : (a b : Bool) → a ≡ true → (a || b) ≡ true
-or_left true b e = refl
-or_left false b e = absurd (cc)
+use Rattle.cd_base.proofs.BoolLemmas.{by_test}
+use Rattle.cd_field.proofs.FlatLemmas.{each_pushed}
 
 -- a place of the i-th range is in the ranges
 pub in_nth : (ranges : List Range) (i : ℕ) (q : Place) → i < length ranges → in_range (range_at ranges i) q ≡ true → in_ranges ranges q ≡ true
@@ -79,14 +73,14 @@ pub struck_has : (faults : List Fault) (i : ℕ) (d : Fault) (id : NodeId) (begi
 struck_has [] i d id begin point P short hit all = absurd (omega arith)
 struck_has (fault ∷ faults) zero d id begin point P short hit all =
     let Q : List Fault → Type 0 = λ v. All P v in
-    let e : struck (fault ∷ faults) id begin point ≡ fault ∷ struck faults id begin point = chosen (strikes_at id begin point fault) _ _ hit in
+    let e : struck (fault ∷ faults) id begin point ≡ fault ∷ struck faults id begin point = cond-true (strikes_at id begin point fault) _ _ hit in
     All-head P fault (struck faults id begin point) (subst Q e all)
 struck_has (fault ∷ faults) (suc i) d id begin point P short hit all =
     let Q : List Fault → Type 0 = λ v. All P v in
     by_test (strikes_at id begin point fault)
-    (λ t. let e : struck (fault ∷ faults) id begin point ≡ fault ∷ struck faults id begin point = chosen (strikes_at id begin point fault) _ _ t in
+    (λ t. let e : struck (fault ∷ faults) id begin point ≡ fault ∷ struck faults id begin point = cond-true (strikes_at id begin point fault) _ _ t in
     struck_has faults i d id begin point P (omega arith) hit (All-tail P fault (struck faults id begin point) (subst Q e all)))
-    (λ f. let e : struck (fault ∷ faults) id begin point ≡ struck faults id begin point = other (strikes_at id begin point fault) _ _ f in
+    (λ f. let e : struck (fault ∷ faults) id begin point ≡ struck faults id begin point = cond-false (strikes_at id begin point fault) _ _ f in
     struck_has faults i d id begin point P (omega arith) hit (subst Q e all))
 
 -- a strike leaves no place without a word
@@ -96,8 +90,8 @@ struck_known was later p mask q is some =
     let Q : Option ℕ → Type 0 = λ o. IsSome o in
     subst P (sym is)
     (by_test (same_place p q)
-    (λ t. subst Q (sym (chosen (same_place p q) _ (was q) t)) refl)
-    (λ f. subst Q (sym (other (same_place p q) _ (was q) f)) some))
+    (λ t. subst Q (sym (cond-true (same_place p q) _ (was q) t)) refl)
+    (λ f. subst Q (sym (cond-false (same_place p q) _ (was q) f)) some))
 
 pub still_known : (later was : Words) (q : Place) → later q ≡ was q → IsSome (was q) → IsSome (later q)
 still_known later was q is some = let P : Option ℕ → Type 0 = λ o. IsSome o in subst P (sym is) some

@@ -1,7 +1,7 @@
 -- Runs of words: read one by one into a list, and laid over a range one by one.
 use Rattle.std.proofs.Common.{◌≡◌, ℕ, ◌+◌, ◌-◌, ◌<◌, ◌≤◌, max, ◌&&◌, ◌||◌, nat_lt, nat_le, ◌==◌, Bool, true, false, if◌then◌else◌, List, [], ◌∷◌, length, map, set, get_or, Option, Some, IsSome, unwrap_or, refl, ap, ap₂, sym, subst, ◌∙◌, arith, inl, inr}
 use Rattle.std.specs.List.{range_with_len}
-use Rattle.std.proofs.lemmas.Bool.{cases_lt}
+use Rattle.std.proofs.lemmas.Bool.{cases_lt, cond-true, cond-false, or_left}
 use Rattle.std.proofs.lemmas.Bool.Decides.{nat_tests}
 use Rattle.std.proofs.lemmas.List.{ext_get_or, get_or-set_same, get_or-set_other}
 use Rattle.std.proofs.lemmas.List.FromFn.{length-map-range_with_len, get_or-map-range_with_len}
@@ -10,8 +10,8 @@ use Rattle.cd_base.specs.declared.place.Place.{Place}
 use Rattle.cd_base.specs.declared.place.Range.{Range}
 use Rattle.cd_base.specs.Words.{Words, PlaceSet, word_at, same_place, in_range}
 use Rattle.cd_tree.specs.Operations.{length_of, nth_word}
-use Rattle.cd_field.specs.FieldModel.{FieldModel, IsPresent, ArePresent, wrote, refilled_word, laid, words_in, wrote_run, refilled_run}
-use Rattle.cd_field.proofs.FlatLemmas.{by_test, chosen, other}
+use Rattle.cd_field.specs.FieldModel.{FieldModel, ArePresent, refilled_word, laid, words_in, wrote_run, refilled_run}
+use Rattle.cd_base.proofs.BoolLemmas.{by_test}
 use Rattle.cd_field.proofs.PlaceLemmas.{choice_at, choice_or, range_none}
 
 -- ---- reading
@@ -26,6 +26,16 @@ read_all w r xs long each =
     ext_get_or 0 xs (map f (range_with_len r.low n)) same
     (λ i short. let inside : i < n = omega (arith, long) in
     each i inside ∙ sym (get_or-map-range_with_len f r.low n i (r.low + i) 0 inside refl))
+
+pub words_long : (w : Words) (r : Range) (xs : List ℕ) → xs ≡ words_in w r → length xs ≡ length_of r
+words_long w r xs is =
+    ap length is ∙ length-map-range_with_len (λ i. word_at w (record { region = r.region; index = i })) r.low (length_of r)
+
+-- one word of them
+pub word_read : (w : Words) (r : Range) (xs : List ℕ) → xs ≡ words_in w r → (j : ℕ) → j < length_of r → get_or xs j 0 ≡ nth_word w r j
+word_read w r xs is j short =
+    ap (λ (v : List ℕ). get_or v j 0) is
+    ∙ get_or-map-range_with_len (λ i. word_at w (record { region = r.region; index = i })) r.low (length_of r) j (r.low + j) 0 short refl
 
 -- one word more is read
 pub read_more : (w : Words) (r : Range) (xs : List ℕ) (i word : ℕ) → r.low ≤ i → i - r.low < length xs
@@ -77,40 +87,13 @@ span_end {X} f old r i past most q =
 abbrev word_for : Range → List ℕ → Place → Option ℕ
 word_for r words q = Some (get_or words (q.index - r.low) 0)
 
-pub wrote_none : (m : FieldModel) (r : Range) (words : List ℕ) → m ≡ wrote_run m (record r { high = r.low }) words
-wrote_none m r words =
-    ap (λ (w : Words). record m { words = w })
-    (sym (fun_ext (range_none (word_for r words) m.words (record r { high = r.low }) (omega arith))))
-
-pub wrote_more : (m was later : FieldModel) (r : Range) (words : List ℕ) (i : ℕ) → r.low ≤ i
-    → m ≡ wrote_run was (record r { high = i }) words
-    → later ≡ wrote m (record { region = r.region; index = i }) (get_or words (i - r.low) 0)
-    → later ≡ wrote_run was (record r { high = i + 1 }) words
-wrote_more m was later r words i low is after =
-    after
-    ∙ ap (λ (v : FieldModel). wrote v (record { region = r.region; index = i }) (get_or words (i - r.low) 0)) is
-    ∙ ap (λ (w : Words). record was { words = w }) (fun_ext (span_more (word_for r words) was.words r i low))
-
-pub wrote_all : (m was : FieldModel) (r : Range) (words : List ℕ) (i : ℕ) → r.high ≤ i → i ≤ max r.low r.high
-    → m ≡ wrote_run was (record r { high = i }) words → m ≡ wrote_run was r words
-wrote_all m was r words i past most is =
-    is ∙ ap (λ (w : Words). record was { words = w }) (fun_ext (span_end (word_for r words) was.words r i past most))
-
--- a place that has a word has one after words are laid
-laid_known : (w : Words) (r : Range) (words : List ℕ) (p : Place) → IsSome (w p) → IsSome (laid w r words p)
-laid_known w r words p some =
-    let P : Option ℕ → Type 0 = λ o. IsSome o in
-    by_test (in_range r p)
-    (λ t. subst P (sym (chosen (in_range r p) (word_for r words p) (w p) t)) refl)
-    (λ f. subst P (sym (other (in_range r p) (word_for r words p) (w p) f)) some)
-
--- each place of the range is present while its words are written
-pub wrote_present : (m was : FieldModel) (r front : Range) (words : List ℕ) → m ≡ wrote_run was front words
-    → ArePresent was (r ∷ []) → ArePresent m (r ∷ [])
-wrote_present m was r front words is present p h =
-    let P : FieldModel → Type 0 = λ v. IsPresent v p in
-    let there : IsPresent was p = present p h in
-    subst P (sym is) (record { known = laid_known was.words front words p there.known; here = there.here })
+-- words put back over places that are present are words written
+pub refilled_present : (m : FieldModel) (r : Range) (words : List ℕ) → ArePresent m (r ∷ []) → refilled_run m r words ≡ wrote_run m r words
+refilled_present m r words present =
+    ap (λ (l : PlaceSet). record m { words = laid m.words r words; lost = l })
+    (fun_ext (λ q. by_test (in_range r q)
+    (λ t. cond-true (in_range r q) false (m.lost q) t ∙ sym (present q (or_left (in_range r q) false t)).here)
+    (λ f. cond-false (in_range r q) false (m.lost q) f)))
 
 pub refilled_none : (m : FieldModel) (r : Range) (words : List ℕ) → m ≡ refilled_run m (record r { high = r.low }) words
 refilled_none m r words =
@@ -136,10 +119,3 @@ refilled_all m was r words i past most is =
     ∙ ap₂ (λ (w : Words) (l : PlaceSet). record was { words = w; lost = l })
     (fun_ext (span_end (word_for r words) was.words r i past most))
     (fun_ext (span_end (λ q. false) was.lost r i past most))
-
--- each place of the range has a word while words are put back
-pub refilled_known : (m was : FieldModel) (r front : Range) (words : List ℕ) → m ≡ refilled_run was front words
-    → ((p : Place) → in_range r p ≡ true → IsSome (was.words p)) → (p : Place) → in_range r p ≡ true → IsSome (m.words p)
-refilled_known m was r front words is known p h =
-    let P : FieldModel → Type 0 = λ v. IsSome (v.words p) in
-    subst P (sym is) (laid_known was.words front words p (known p h))

@@ -2,7 +2,7 @@
 use Rattle.std.proofs.Common.{◌≡◌, ℕ, ◌+◌, ◌-◌, ◌<◌, ◌≤◌, Bool, true, false, if◌then◌else◌, List, ◌++◌, length, take, drop, get_or, replicate, Option, None, Some, IsSome, unwrap_or, refl, ap, sym, subst, ◌∙◌, arith, inl, inr}
 use Rattle.std.specs.Prelude.{slice_get}
 use Rattle.std.specs.List.{splice}
-use Rattle.std.proofs.lemmas.Bool.{cases_lt}
+use Rattle.std.proofs.lemmas.Bool.{cases_lt, cond-true, cond-false}
 use Rattle.std.proofs.lemmas.List.{get_or-take, get_or-drop, get_or_append_left, get_or-append_right, length-take, length-drop, length-append, length-replicate, get_or-replicate}
 use Rattle.std.proofs.lemmas.Option.{slice_get-get_or, slice_get_past, unwrap_or-slice_get}
 use Rattle.cd_base.specs.declared.place.Place.{Place}
@@ -11,8 +11,10 @@ use Rattle.cd_base.specs.Words.{in_range, same_place}
 use Rattle.cd_tree.specs.Operations.{length_of, nth_word}
 use Rattle.cd_field.specs.declared.flat_words.Slot.{Slot}
 use Rattle.cd_field.specs.Flat.{index_of, item_by, is_lost, flat_words, slot_at, IsInOrder, HasRoom}
+use Rattle.cd_base.proofs.PlaceLemmas.{Inside, inside_from, inside_to}
+use Rattle.cd_base.proofs.BoolLemmas.{by_test}
 use Rattle.cd_field.proofs.PlaceLemmas.{same_place-eq}
-use Rattle.cd_field.proofs.FlatLemmas.{Inside, inside_from, inside_to, Found, index_found, index_in_slot, index_one, item_there, stands_within, before_says, by_test, by_option, chosen, other, lost_choice}
+use Rattle.cd_field.proofs.FlatLemmas.{Found, index_found, index_in_slot, index_one, item_there, stands_within, before_says, by_option, lost_choice}
 
 -- ---- the slot of a run
 
@@ -76,7 +78,7 @@ run_within {A} slots items r k order known short has =
       | inr l ↦ omega arith
     ]
 
--- the places of a run stand one behind the other
+-- the places of a run stand one after the other
 pub run_stands : {A : Type 0} (slots : List Slot) (items : List A) (r : Range) (i : ℕ) → IsInOrder slots → HasItems slots items r
     → index_of slots (first_place r) ≡ Some i → (q : Place) → in_range r q ≡ true → index_of slots q ≡ Some (i + (q.index - r.low))
 run_stands {A} slots items r i order known at q in_r =
@@ -216,13 +218,13 @@ item_laid {A} slots items run r i d q own order known at full long =
     let high : q.index < r.high = j.high in
     ap (item_by all) (run_stands slots items r i order known at q t)
     ∙ spliced_in items run i (q.index - r.low) d room (omega arith)
-    ∙ sym (chosen (in_range r q) (Some (get_or run (q.index - r.low) d)) (item_by items (index_of slots q)) t))
+    ∙ sym (cond-true (in_range r q) (Some (get_or run (q.index - r.low) d)) (item_by items (index_of slots q)) t))
     (λ f. by_option (index_of slots q)
     (λ none. ap (item_by all) none ∙ sym (ap (item_by items) none))
     (λ k e. ap (item_by all) e
     ∙ spliced_out items run i k d room (λ from to. apart_from slots items r i k q own order known at e f from (omega arith))
     ∙ sym (ap (item_by items) e))
-    ∙ sym (other (in_range r q) (Some (get_or run (q.index - r.low) d)) (item_by items (index_of slots q)) f))
+    ∙ sym (cond-false (in_range r q) (Some (get_or run (q.index - r.low) d)) (item_by items (index_of slots q)) f))
 
 -- one item for all places of a run
 filled : {A : Type 0} (b : Bool) (n j : ℕ) (item : A) (o : Option A) → (b ≡ true → j < n)

@@ -1,24 +1,13 @@
 -- Lemmas on the faults of a script that strike, one fault after the other.
-use Rattle.std.proofs.Common.{◌≡◌, ℕ, ◌+◌, ◌<◌, ◌≤◌, Bool, true, false, List, ◌∷◌, length, drop, get_or, sym, ap, ◌∙◌, arith, bit_or, max, if◌then◌else◌}
-use Rattle.std.specs.Int.{bit_at}
+use Rattle.std.proofs.Common.{◌≡◌, ℕ, ◌+◌, ◌<◌, ◌≤◌, Bool, true, false, List, ◌∷◌, length, drop, get_or, sym, ap, ◌∙◌, bit_or, if◌then◌else◌}
 use Rattle.std.specs.Int.Bits.{or_zero_r}
-use Rattle.std.proofs.lemmas.Nat.Bits.{bit_at_or, same_from_bits}
 use Rattle.std.proofs.lemmas.List.{drop_more, drop_all}
 use Rattle.cd_base.specs.Words.{Words, struck_word}
 use Rattle.cd_tree.specs.declared.domain.NodeId.{NodeId}
 use Rattle.cd_tree.specs.declared.document.Fault.{Fault}
 use Rattle.cd_tree.specs.KindSets.{only_kind, with_kind}
+use Rattle.cd_tree.proofs.KindLemmas.{bit_or-assoc}
 use Rattle.cd_tree.specs.Scripts.{strikes_at, struck, kinds_of, words_struck}
-
-max_max : (a b c : ℕ) → max (max a b) c ≡ max a (max b c)
-max_max a b c = omega arith
-
-or_or : (a b c : ℕ) → bit_or (bit_or a b) c ≡ bit_or a (bit_or b c)
-or_or a b c =
-    same_from_bits _ _ (λ i.
-    bit_at_or (bit_or a b) c i ∙ ap (λ (n : ℕ). max n (bit_at c i)) (bit_at_or a b i)
-    ∙ max_max (bit_at a i) (bit_at b i) (bit_at c i)
-    ∙ ap (λ (n : ℕ). max (bit_at a i) n) (sym (bit_at_or b c i)) ∙ sym (bit_at_or a (bit_or b c) i))
 
 -- ---- the faults from an index on
 
@@ -35,18 +24,12 @@ struck_from faults i d id begin point strikes h e =
 struck_hit : (faults : List Fault) (i : ℕ) (d : Fault) (id : NodeId) (begin point : ℕ) (strikes : Bool) → i < length faults
     → strikes ≡ strikes_at id begin point (get_or faults i d) → strikes ≡ true
     → get_or faults i d ∷ struck (drop (i + 1) faults) id begin point ≡ struck (drop i faults) id begin point
-struck_hit faults i d id begin point strikes h e t =
-    let fault : Fault = get_or faults i d in
-    let rest : List Fault = struck (drop (i + 1) faults) id begin point in
-    ap (λ (b : Bool). if b then fault ∷ rest else rest) (sym t) ∙ sym (struck_from faults i d id begin point strikes h e)
+struck_hit faults i d id begin point strikes h e t = sym (struck_from faults i d id begin point true h (sym t ∙ e))
 
 pub struck_miss : (faults : List Fault) (i : ℕ) (d : Fault) (id : NodeId) (begin point : ℕ) (strikes : Bool) → i < length faults
     → strikes ≡ strikes_at id begin point (get_or faults i d) → strikes ≡ false
     → struck (drop (i + 1) faults) id begin point ≡ struck (drop i faults) id begin point
-struck_miss faults i d id begin point strikes h e t =
-    let fault : Fault = get_or faults i d in
-    let rest : List Fault = struck (drop (i + 1) faults) id begin point in
-    ap (λ (b : Bool). if b then fault ∷ rest else rest) (sym t) ∙ sym (struck_from faults i d id begin point strikes h e)
+struck_miss faults i d id begin point strikes h e t = sym (struck_from faults i d id begin point false h (sym t ∙ e))
 
 pub words_hit : (faults : List Fault) (i : ℕ) (d : Fault) (id : NodeId) (begin point : ℕ) (strikes : Bool) → i < length faults
     → strikes ≡ strikes_at id begin point (get_or faults i d) → strikes ≡ true
@@ -62,7 +45,7 @@ pub kinds_hit : (faults : List Fault) (i : ℕ) (d : Fault) (id : NodeId) (begin
     → bit_or now (kinds_of (struck (drop (i + 1) faults) id begin point)) ≡ bit_or was (kinds_of (struck (drop i faults) id begin point))
 kinds_hit faults i d id begin point strikes h e t was now c =
     let rest : ℕ = kinds_of (struck (drop (i + 1) faults) id begin point) in
-    ap (λ (n : ℕ). bit_or n rest) c ∙ or_or was (only_kind (get_or faults i d).kind) rest
+    ap (λ (n : ℕ). bit_or n rest) c ∙ bit_or-assoc was (only_kind (get_or faults i d).kind) rest
     ∙ ap (λ (fs : List Fault). bit_or was (kinds_of fs)) (struck_hit faults i d id begin point strikes h e t)
 
 -- none are left

@@ -1,15 +1,18 @@
 -- The machine of the trials stays ready for the next call.
-use Rattle.std.proofs.Common.{◌≡◌, ℕ, true, List, [], ◌∷◌, All, IsSome, refl, sym, subst}
+use Rattle.std.proofs.Common.{◌≡◌, ℕ, Bool, true, false, ◌&&◌, ◌||◌, nat_lt, nat_le, ◌==◌, List, [], ◌∷◌, All, IsSome, arith, refl, ap, sym, subst, ◌∙◌}
+use Rattle.std.proofs.lemmas.Bool.{or_left, or_right}
+use Rattle.std.proofs.lemmas.Bool.Decides.{nat_tests}
 use Rattle.std.proofs.lemmas.List.Elements.{All-nil, All-cons, All-head, All-tail}
 use Rattle.cd_base.specs.declared.place.Place.{Place}
-use Rattle.cd_base.specs.Words.{Words, same_place, struck_word, in_ranges}
+use Rattle.cd_base.specs.declared.place.Range.{Range}
+use Rattle.cd_base.specs.Words.{Words, PlaceSet, same_place, struck_word, in_ranges}
 use Rattle.cd_tree.specs.declared.domain.NodeId.{NodeId}
 use Rattle.cd_tree.specs.declared.document.Fault.{Fault}
 use Rattle.cd_tree.specs.declared.event.Event.{Event}
 use Rattle.cd_tree.specs.Scripts.{strikes_at, struck, words_struck}
-use Rattle.cd_field.specs.FieldModel.{FieldModel, IsPresent, hits_at, reached_point, told}
+use Rattle.cd_field.specs.FieldModel.{FieldModel, ArePresent, IsPresent, begun, hits_at, part_of, reached_point, told, wrote}
 use Rattle.cd_field.specs.Trials.{board, IsAimed, IsReady}
-use Rattle.cd_field.proofs.FlatLemmas.{by_test}
+use Rattle.cd_base.proofs.BoolLemmas.{by_test, or-none}
 
 -- the faults that strike at a point are of the script
 present_struck : (m : FieldModel) (faults : List Fault) (id : NodeId) (begin point : ℕ)
@@ -34,18 +37,42 @@ some_struck (fault ∷ faults) w p some =
     some_struck faults (struck_word w fault.place fault.mask) p
     (by_test (same_place fault.place p) (λ t. rw t refl) (λ f. rw f some))
 
-pub ready_reached : (m later : FieldModel) (point : ℕ) → later ≡ reached_point m point → IsReady m → IsReady later
-ready_reached m later point is ready =
-    let P : FieldModel → Type 0 = λ v. IsReady v in
+-- a machine with a word wherever there was one, and the same places away and the same script
+ready_as : (m v later : FieldModel) → later ≡ v → ((p : Place) → IsSome (m.words p) → IsSome (v.words p)) → v.lost ≡ m.lost → v.script ≡ m.script
+    → IsReady m → IsReady later
+ready_as m v later is words lost script ready =
+    let P : FieldModel → Type 0 = λ u. IsReady u in
     subst P (sym is) (record {
-      each = λ p h. record { known = some_struck (hits_at m point) m.words p (ready.each p h).known; here = (ready.each p h).here };
-      aimed = ready.aimed;
+      each = λ p h. record {
+        known = words p (ready.each p h).known;
+        here = ap (λ (l : PlaceSet). l p) lost ∙ (ready.each p h).here;
+      };
+      aimed = let Q : List Fault → Type 0 = λ faults. All IsAimed faults in subst Q (sym script) ready.aimed;
     })
 
+pub ready_reached : (m later : FieldModel) (point : ℕ) → later ≡ reached_point m point → IsReady m → IsReady later
+ready_reached m later point is = ready_as m (reached_point m point) later is (some_struck (hits_at m point) m.words) refl refl
+
 pub ready_told : (m later : FieldModel) (event : Event) → later ≡ told m event → IsReady m → IsReady later
-ready_told m later event is ready =
-    let P : FieldModel → Type 0 = λ v. IsReady v in
-    subst P (sym is) (record {
-      each = λ p h. record { known = (ready.each p h).known; here = (ready.each p h).here };
-      aimed = ready.aimed;
-    })
+ready_told m later event is = ready_as m (told m event) later is (λ p some. some) refl refl
+
+pub ready_begun : (m later : FieldModel) (id : NodeId) (number : ℕ) → later ≡ begun m id number → IsReady m → IsReady later
+ready_begun m later id number is = ready_as m (begun m id number) later is (λ p some. some) refl refl
+
+pub ready_wrote : (m later : FieldModel) (at : Place) (word : ℕ) → later ≡ wrote m at word → IsReady m → IsReady later
+ready_wrote m later at word is =
+    ready_as m (wrote m at word) later is (λ p some. by_test (same_place at p) (λ t. rw t refl) (λ f. rw f some)) refl refl
+
+-- a part has what it writes
+in_board : (r i : ℕ) → ((0 == r) && (nat_le 2 i && nat_lt i 4)) ≡ true → ((0 == r) && (nat_le 0 i && nat_lt i 4)) ≡ true
+in_board r i h = grind (arith, nat_tests)
+
+pub part_there : (m part : FieldModel) (reads writes : List Range)
+    → ((q : Place) → in_ranges writes q ≡ in_ranges (record { region = 0; low = 2; high = 4 } ∷ []) q)
+    → part ≡ part_of m reads writes → IsReady m → ArePresent part (record { region = 0; low = 2; high = 4 } ∷ [])
+part_there m part reads writes same is ready =
+    let P : FieldModel → Type 0 = λ v. ArePresent v (record { region = 0; low = 2; high = 4 } ∷ []) in
+    subst P (sym is) (λ p h.
+    let on_board : in_ranges board p ≡ true = or_left _ _ (in_board p.region p.index (sym (or-none _) ∙ h)) in
+    let t : (in_ranges reads p || in_ranges writes p) ≡ true = or_right (in_ranges reads p) (in_ranges writes p) (same p ∙ h) in
+    record { known = rw t (ready.each p on_board).known; here = refl })

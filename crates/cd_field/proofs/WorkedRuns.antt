@@ -31,20 +31,11 @@ written_words : words_in wrote_two.words (span 0 4) ≡ 0 ∷ 10 ∷ 7 ∷ 8 ∷
 written_words = refl
 
 -- a write takes nothing back, and gives no place a word that had none
-still_away : wrote_two.lost (at 2) ≡ true
-still_away = refl
-
-still_none : wrote_two.words (at 4) ≡ None
-still_none = refl
+still_away : (wrote_two.lost (at 2) ≡ true) × (wrote_two.words (at 4) ≡ None)
+still_away = (refl, refl)
 
 abbrev refilled_two : FieldModel
 refilled_two = refilled_run before (span 2 4) (7 ∷ 8 ∷ [])
 
-refilled_words : words_in refilled_two.words (span 0 4) ≡ 0 ∷ 10 ∷ 7 ∷ 8 ∷ []
-refilled_words = refl
-
-here_again : refilled_two.lost (at 2) ≡ false
-here_again = refl
-
-away_yet : refilled_two.lost (at 1) ≡ true
-away_yet = refl
+refilled_words : (words_in refilled_two.words (span 0 4) ≡ 0 ∷ 10 ∷ 7 ∷ 8 ∷ []) × (refilled_two.lost (at 2) ≡ false) × (refilled_two.lost (at 1) ≡ true)
+refilled_words = (refl, refl, refl)

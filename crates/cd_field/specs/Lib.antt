@@ -1,3 +1,4 @@
+-- The files of definitions: what each call does to a machine first, then how the two machines keep it.
 pub mod FieldModel
 pub mod Maps
 pub mod Flat

@@ -1,4 +1,5 @@
-ghost use Rattle.std.specs.Prelude.{◌≡◌, ◌≢◌, ◌⊎◌, [], ◌∷◌, Some, IsSome, true, OnOk, IfOk, All, length, slice_get};
+// The trait of machines: what each call does to one.
+ghost use Rattle.std.specs.Prelude.{◌≡◌, ◌≢◌, ◌⊎◌, [], ◌∷◌, Some, IsSome, IfSome, true, OnOk, IfOk, All, length, slice_get};
 ghost use Rattle.cd_base.specs.Words.{in_range};
 ghost use Rattle.cd_tree.specs.Operations.{length_of};
 ghost use Rattle.cd_tree.specs.declared.event.Event.TheVariants.{Saved, Fell, Lapsed, Refilled, Halted, Found, Complete};
@@ -36,12 +37,26 @@ pub trait Field: Sized + Send + Drop {
         requires { IsSome ((model self.old).words place) }
         ensures { model self.new ≡ refilled_word (model self.old) place word };
 
+    /// The words of a range in order, where the machine has them together and lends them; none is an answer of any machine.
+    /// A range may be empty. It takes no memory.
+    fn lent(&self, range: Range) -> Option<&[u64]>
+        requires { ArePresent (model self.now) (range ∷ []) }
+        ensures { IfSome result (λ lent. lent.now ≡ words_in (model self.now).words range) }
+    {
+        None
+    }
+
     /// The words of a range in order, into a list of that length. A range may be empty. It takes no memory.
+    #[inline(always)]
     fn read_run(&self, range: Range, words: &mut [u64])
         requires present { ArePresent (model self.now) (range ∷ []) }
         requires long { length words.old ≡ length_of range }
         ensures { words.new ≡ words_in (model self.now).words range }
     {
+        if let Some(lent) = self.lent(range) {
+            words.copy_from_slice(lent);
+            return;
+        }
         for index in range.low..range.high {
             words[(index - range.low) as usize] = self.read(Place {
                 region: range.region,
@@ -50,15 +65,21 @@ pub trait Field: Sized + Send + Drop {
         }
     }
 
-    /// The words of a range in order, without a copy where the machine has them in one list; else they are read into the room,
-    /// which has that length. A range may be empty. It takes no memory.
+    /// The words of a range in order, without a copy where the machine lends them; else they are read into the room, which
+    /// has that length. A range may be empty. It takes no memory.
+    #[inline(always)]
     fn run<'a>(&'a self, range: Range, room: &'a mut [u64]) -> &'a [u64]
         requires present { ArePresent (model self.now) (range ∷ []) }
         requires long { length room.old ≡ length_of range }
         ensures { result.now ≡ words_in (model self.now).words range }
     {
-        self.read_run(range, room);
-        room
+        match self.lent(range) {
+            Some(lent) => lent,
+            None => {
+                self.read_run(range, room);
+                room
+            }
+        }
     }
 
     /// Changes the words of a range to those of a list of that length. A range may be empty. It takes no memory.
@@ -67,13 +88,7 @@ pub trait Field: Sized + Send + Drop {
         requires long { length words.now ≡ length_of range }
         ensures { model self.new ≡ wrote_run (model self.old) range words.now }
     {
-        for index in range.low..range.high {
-            let place = Place {
-                region: range.region,
-                index,
-            };
-            self.write(place, words[(index - range.low) as usize]);
-        }
+        self.refill_run(range, words);
     }
 
     /// Puts the words of a range back from a list of that length, so that its places are present. A range may be empty.
@@ -101,36 +116,84 @@ pub trait Field: Sized + Send + Drop {
     fn notes(&self) -> Kinds
         ensures { result ≡ (model self.now).notes };
 
+    /// The domain in hand. It takes no memory.
+    fn node(&self) -> NodeId
+        ensures { result ≡ (model self.now).node };
+
+    /// Puts an event last in the record.
+    fn tell(&mut self, event: Event) -> Result<(), NoMemory>
+        ensures { OnOk result (model self.new ≡ told (model self.old) event) };
+
     /// An entry was preserved.
     fn saved(&mut self, entry: u32, how: Kept) -> Result<(), NoMemory>
-        ensures { OnOk result (model self.new ≡ told (model self.old) (Saved (model self.old).node entry how)) };
+        ensures { OnOk result (model self.new ≡ told (model self.old) (Saved (model self.old).node entry how)) }
+    {
+        let node = self.node();
+        self.tell(Event::Saved { node, entry, how })
+    }
 
     /// The word of a place is not the one that its entry's pattern gives.
     fn fell(&mut self, entry: u32, place: Place, wanted: u64) -> Result<(), NoMemory>
         requires present { IsPresent (model self.old) place }
         requires differs { (model self.old).words place ≢ Some wanted }
-        ensures { OnOk result ((found : _) → (model self.old).words place ≡ Some found → model self.new ≡ told (model self.old) (Fell (model self.old).node entry place wanted found)) };
+        ensures { OnOk result ((found : _) → (model self.old).words place ≡ Some found → model self.new ≡ told (model self.old) (Fell (model self.old).node entry place wanted found)) }
+    {
+        let node = self.node();
+        let found = self.read(place);
+        self.tell(Event::Fell {
+            node,
+            entry,
+            place,
+            wanted,
+            found,
+        })
+    }
 
     /// A shared copy was gone.
     fn lapsed(&mut self, entry: u32, seen: u64, found: u64) -> Result<(), NoMemory>
         requires { seen ≢ found }
-        ensures { OnOk result (model self.new ≡ told (model self.old) (Lapsed (model self.old).node entry seen found)) };
+        ensures { OnOk result (model self.new ≡ told (model self.old) (Lapsed (model self.old).node entry seen found)) }
+    {
+        let node = self.node();
+        self.tell(Event::Lapsed {
+            node,
+            entry,
+            seen,
+            found,
+        })
+    }
 
     /// An entry's words were put back.
     fn refilled(&mut self, entry: u32) -> Result<(), NoMemory>
-        ensures { OnOk result (model self.new ≡ told (model self.old) (Refilled (model self.old).node entry)) };
+        ensures { OnOk result (model self.new ≡ told (model self.old) (Refilled (model self.old).node entry)) }
+    {
+        let node = self.node();
+        self.tell(Event::Refilled { node, entry })
+    }
 
     /// Halting kinds end the try.
     fn halted(&mut self, kinds: Kinds) -> Result<(), NoMemory>
-        ensures { OnOk result (model self.new ≡ told (model self.old) (Halted (model self.old).node kinds)) };
+        ensures { OnOk result (model self.new ≡ told (model self.old) (Halted (model self.old).node kinds)) }
+    {
+        let node = self.node();
+        self.tell(Event::Halted { node, kinds })
+    }
 
     /// The kinds that detection found.
     fn found(&mut self, kinds: Kinds) -> Result<(), NoMemory>
-        ensures { OnOk result (model self.new ≡ told (model self.old) (Found (model self.old).node kinds)) };
+        ensures { OnOk result (model self.new ≡ told (model self.old) (Found (model self.old).node kinds)) }
+    {
+        let node = self.node();
+        self.tell(Event::Found { node, kinds })
+    }
 
     /// The domain completes.
     fn complete(&mut self) -> Result<(), NoMemory>
-        ensures { OnOk result (model self.new ≡ told (model self.old) (Complete (model self.old).node)) };
+        ensures { OnOk result (model self.new ≡ told (model self.old) (Complete (model self.old).node)) }
+    {
+        let node = self.node();
+        self.tell(Event::Complete { node })
+    }
 
     /// The domain escalates; its notes vanish.
     fn escalate(&mut self) -> Result<(), NoMemory>

@@ -116,16 +116,6 @@ impl FlatWords {
         }
     }
 
-    /// Puts the words of a range of places that have one into a list, in order.
-    #[inline(always)]
-    pub(crate) fn read_run(&self, range: Range, words: &mut [u64])
-        requires known { (q : _) → in_range range q ≡ true → IsSome (flat_words self.now.slots.items self.now.words.items q) }
-        requires long { length words.old ≡ length_of range }
-        ensures { words.new ≡ words_in (flat_words self.now.slots.items self.now.words.items) range }
-    {
-        words.copy_from_slice(self.run(range));
-    }
-
     /// Changes the words of a range of places that have one. Whether they are away stays.
     #[inline(always)]
     pub(crate) fn write_run(&mut self, range: Range, words: &[u64])

@@ -18,6 +18,8 @@ pub use map_field::MapField;
 pub use script_field::ScriptField;
 
 #[cfg(test)]
+mod board;
+#[cfg(test)]
 mod tests;
 #[cfg(test)]
 mod trials;

@@ -1,3 +1,4 @@
+// The plain machine, beside which the shipped one is tried.
 ghost use Rattle.std.specs.Prelude.{◌≡◌, []};
 ghost use Rattle.cd_field.specs.FieldModel.{loaded};
 ghost use Rattle.cd_field.specs.Maps.{machine_of};
@@ -8,7 +9,7 @@ use crate::words::{
     words_at,
 };
 use cd_base::{NoMemory, Place, Places, Range};
-use cd_tree::{Event, Fault, Kept, Kinds, NodeId, Regions, Script};
+use cd_tree::{Event, Fault, Kinds, NodeId, Regions, Script};
 use std::alloc::Global;
 use std::collections::{BTreeMap, BTreeSet};
 
@@ -100,57 +101,12 @@ impl Field for MapField {
         self.notes
     }
 
-    fn saved(&mut self, entry: u32, how: Kept) -> Result<(), NoMemory> {
-        let node = self.node;
-        self.events.push(Event::Saved { node, entry, how })?;
-        Ok(())
+    fn node(&self) -> NodeId {
+        self.node
     }
 
-    fn fell(&mut self, entry: u32, place: Place, wanted: u64) -> Result<(), NoMemory> {
-        let node = self.node;
-        let found = self.read(place);
-        self.events.push(Event::Fell {
-            node,
-            entry,
-            place,
-            wanted,
-            found,
-        })?;
-        Ok(())
-    }
-
-    fn lapsed(&mut self, entry: u32, seen: u64, found: u64) -> Result<(), NoMemory> {
-        let node = self.node;
-        self.events.push(Event::Lapsed {
-            node,
-            entry,
-            seen,
-            found,
-        })?;
-        Ok(())
-    }
-
-    fn refilled(&mut self, entry: u32) -> Result<(), NoMemory> {
-        let node = self.node;
-        self.events.push(Event::Refilled { node, entry })?;
-        Ok(())
-    }
-
-    fn halted(&mut self, kinds: Kinds) -> Result<(), NoMemory> {
-        let node = self.node;
-        self.events.push(Event::Halted { node, kinds })?;
-        Ok(())
-    }
-
-    fn found(&mut self, kinds: Kinds) -> Result<(), NoMemory> {
-        let node = self.node;
-        self.events.push(Event::Found { node, kinds })?;
-        Ok(())
-    }
-
-    fn complete(&mut self) -> Result<(), NoMemory> {
-        let node = self.node;
-        self.events.push(Event::Complete { node })?;
+    fn tell(&mut self, event: Event) -> Result<(), NoMemory> {
+        self.events.push(event)?;
         Ok(())
     }
 

@@ -1,5 +1,6 @@
-ghost use Rattle.std.specs.Prelude.{◌≡◌, []};
-ghost use Rattle.cd_field.specs.FieldModel.{loaded};
+// The machine that the program ships.
+ghost use Rattle.std.specs.Prelude.{◌≡◌, [], ◌∷◌, IsSome, IfSome};
+ghost use Rattle.cd_field.specs.FieldModel.{loaded, words_in, ArePresent};
 ghost use Rattle.cd_field.specs.FlatMachine.{flat_machine};
 
 use crate::Field;
@@ -7,7 +8,7 @@ use crate::event_list::EventList;
 use crate::flat_parts::{first_flat, flat_part, mark_ranges, strike_flat, take_ranges, union_of};
 use crate::flat_words::FlatWords;
 use cd_base::{NoMemory, Place, Places, Range};
-use cd_tree::{Event, Fault, Kept, Kinds, NodeId, Regions, Script};
+use cd_tree::{Event, Fault, Kinds, NodeId, Regions, Script};
 use std::alloc::Global;
 
 /// The shipped machine: its words stand in one flat list, with a table of its ranges, and its record in parts that are
@@ -77,12 +78,13 @@ impl Field for ScriptField {
         self.words.put_back(place, word);
     }
 
-    fn read_run(&self, range: Range, words: &mut [u64]) {
-        self.words.read_run(range, words);
-    }
-
-    fn run<'a>(&'a self, range: Range, _room: &'a mut [u64]) -> &'a [u64] {
-        self.words.run(range)
+    #[inline(always)]
+    fn lent(&self, range: Range) -> Option<&[u64]>
+        requires { ArePresent (flat_machine self.now) (range ∷ []) }
+        ensures lends { IsSome result }
+        ensures words { IfSome result (λ lent. lent.now ≡ words_in (flat_machine self.now).words range) }
+    {
+        Some(self.words.run(range))
     }
 
     fn write_run(&mut self, range: Range, words: &[u64]) {
@@ -111,57 +113,12 @@ impl Field for ScriptField {
         self.notes
     }
 
-    fn saved(&mut self, entry: u32, how: Kept) -> Result<(), NoMemory> {
-        let node = self.node;
-        self.events.push(Event::Saved { node, entry, how })?;
-        Ok(())
+    fn node(&self) -> NodeId {
+        self.node
     }
 
-    fn fell(&mut self, entry: u32, place: Place, wanted: u64) -> Result<(), NoMemory> {
-        let node = self.node;
-        let found = self.read(place);
-        self.events.push(Event::Fell {
-            node,
-            entry,
-            place,
-            wanted,
-            found,
-        })?;
-        Ok(())
-    }
-
-    fn lapsed(&mut self, entry: u32, seen: u64, found: u64) -> Result<(), NoMemory> {
-        let node = self.node;
-        self.events.push(Event::Lapsed {
-            node,
-            entry,
-            seen,
-            found,
-        })?;
-        Ok(())
-    }
-
-    fn refilled(&mut self, entry: u32) -> Result<(), NoMemory> {
-        let node = self.node;
-        self.events.push(Event::Refilled { node, entry })?;
-        Ok(())
-    }
-
-    fn halted(&mut self, kinds: Kinds) -> Result<(), NoMemory> {
-        let node = self.node;
-        self.events.push(Event::Halted { node, kinds })?;
-        Ok(())
-    }
-
-    fn found(&mut self, kinds: Kinds) -> Result<(), NoMemory> {
-        let node = self.node;
-        self.events.push(Event::Found { node, kinds })?;
-        Ok(())
-    }
-
-    fn complete(&mut self) -> Result<(), NoMemory> {
-        let node = self.node;
-        self.events.push(Event::Complete { node })?;
+    fn tell(&mut self, event: Event) -> Result<(), NoMemory> {
+        self.events.push(event)?;
         Ok(())
     }
 

@@ -1,15 +1,13 @@
 // One long random sequence of calls, made on both machines, which give the same at each step.
-ghost use Rattle.std.specs.Prelude.{◌≡◌, ◌<◌, ◌+◌, ◌≤◌, true, [], ◌∷◌, All, IsSome, OnOk, IfOk};
-ghost use Rattle.cd_base.specs.Words.{in_range, in_ranges};
-ghost use Rattle.cd_tree.specs.Meaning.{initial};
-ghost use Rattle.cd_field.specs.FieldModel.{IsPresent};
+ghost use Rattle.std.specs.Prelude.{◌≡◌, ◌<◌, true, All, OnOk, IfOk};
+ghost use Rattle.cd_base.specs.Words.{in_ranges};
 ghost use Rattle.cd_field.specs.Trials.{board, IsAimed, IsReady};
 
+use crate::board::{fault, load_board, look, places};
 use crate::{Field, MapField, ScriptField};
-use cd_base::{Items, Pattern, Place, Places, Range, Text};
-use cd_tree::{Fault, Kept, Kind, Kinds, NodeId, Region, Regions, Script};
+use cd_base::{Items, Pattern, Place, Range};
+use cd_tree::{Kept, Kind, NodeId, Script};
 use std::alloc::Global;
-use std::process::Abort;
 use std::test::Fail;
 
 const TURNS: u32 = 3000;
@@ -44,56 +42,17 @@ fn pick_place(random: u64) -> Place
     }
 }
 
-// Four words and two.
-fn two_regions(alloc: Global) -> Result<Regions, Fail>
-    ensures { IfOk result (λ regions. (p : _) → in_ranges board p ≡ true → IsSome (initial regions p)) }
-{
-    let mut regions = Items::new(alloc);
-    regions.push(Region {
-        name: Text::of(alloc, "a")?,
-        length: 4,
-        pattern: Pattern::Mix(9),
-    })?;
-    regions.push(Region {
-        name: Text::of(alloc, "b")?,
-        length: 2,
-        pattern: Pattern::Iota(3, 2),
-    })?;
-    Ok(regions)
-}
-
-fn fault(begin: u64, item: u32, kind: u8, index: u32) -> Fault
-    requires { index < 4 }
-    ensures { IsAimed result }
-{
-    Fault {
-        node: NodeId(0),
-        begin,
-        item,
-        kind: Kind(kind),
-        place: Place { region: 0, index },
-        mask: 255 + u64::from(index),
-    }
-}
-
 // Some strike together at one point, two of them the same word.
 fn five_faults(alloc: Global) -> Result<Script, Fail>
     ensures { IfOk result (λ script. All IsAimed script) }
 {
     let mut script = Items::new(alloc);
-    script.push(fault(1, 0, 1, 0))?;
-    script.push(fault(1, 0, 2, 3))?;
-    script.push(fault(2, 1, 3, 1))?;
-    script.push(fault(1, 0, 4, 0))?;
-    script.push(fault(2, 2, 1, 2))?;
+    script.push(fault(1, 0, 1, 0, 255))?;
+    script.push(fault(1, 0, 2, 3, 258))?;
+    script.push(fault(2, 1, 3, 1, 256))?;
+    script.push(fault(1, 0, 4, 0, 255))?;
+    script.push(fault(2, 2, 1, 2, 257))?;
     Ok(script)
-}
-
-fn load<F: Field>(field: &mut F, alloc: Global) -> Result<(), Fail>
-    ensures { OnOk result (IsReady (F.model field.new)) }
-{
-    field.load(&two_regions(alloc)?, &five_faults(alloc)?)?;
-    Ok(())
 }
 
 // A call that changes words.
@@ -169,19 +128,6 @@ fn tell_entry<F: Field>(field: &mut F, random: u64) -> Result<(), Fail>
     Ok(())
 }
 
-fn ranges(alloc: Global, low: u32, high: u32) -> Result<Places, Fail>
-    requires { low < high }
-    ensures { IfOk result (λ places. (q : _) → in_ranges places q ≡ in_ranges (record { region = 0; low = low; high = high } ∷ []) q) }
-{
-    let mut places = Places::new(alloc);
-    places.add(Range {
-        region: 0,
-        low,
-        high,
-    })?;
-    Ok(places)
-}
-
 // A part is carved out to write one word, writes it, tells of it, and comes back, with commit or without; then the word
 // is put back.
 fn hand_over<F: Field>(field: &mut F, alloc: Global, random: u64) -> Result<(), Fail>
@@ -192,8 +138,8 @@ fn hand_over<F: Field>(field: &mut F, alloc: Global, random: u64) -> Result<(), 
     let index = pick(random, 1 << 36, 4) as u32;
     let commit = pick(random, 1 << 32, 2) == 0;
     let place = Place { region: 0, index };
-    let reads = ranges(alloc, low, low + 2)?;
-    let writes = ranges(alloc, index, index + 1)?;
+    let reads = places(alloc, low, low + 2)?;
+    let writes = places(alloc, index, index + 1)?;
     let mut part = field.carve(&reads, &writes)?;
     part.begin(NodeId(1), random)?;
     part.write(place, random);
@@ -219,74 +165,60 @@ fn step<F: Field>(field: &mut F, alloc: Global, random: u64) -> Result<(), Fail>
     Ok(())
 }
 
-// The four words and the two.
-fn look<F: Field>(field: &F) -> ([u64; 4], [u64; 2])
-    requires { IsReady (F.model field.now) }
-{
-    let mut four = [0; 4];
-    field.read_run(
-        Range {
-            region: 0,
-            low: 0,
-            high: 4,
-        },
-        &mut four,
-    );
-    let mut two = [0; 2];
-    field.read_run(
-        Range {
-            region: 1,
-            low: 0,
-            high: 2,
-        },
-        &mut two,
-    );
-    (four, two)
+// Whether both machines have an event of a number; it is the same.
+fn same_event<F: Field, G: Field>(field: &F, other: &G, k: u64) -> Result<bool, Fail> {
+    let event = field.event(k);
+    if event == other.event(k) {
+        Ok(event.is_some())
+    } else {
+        Err(Fail::new(format_args!("event {k}")))
+    }
 }
 
-// Whether two machines give the same: the words, the notes, and the events from a number on, up to one that neither has.
-// A step tells at most three. Gives the number of events.
-fn agree<F: Field, G: Field>(rt: &impl Abort, field: &F, other: &G, from: u64) -> u64
+// Both machines give the same: the words, the notes, and the events from a number on, up to one that neither has. A step
+// tells at most three. Gives the number of events.
+fn agree<F: Field, G: Field>(field: &F, other: &G, from: u64) -> Result<u64, Fail>
     requires one { IsReady (F.model field.now) }
     requires both { IsReady (G.model other.now) }
 {
-    assert_eq!(rt; look(field), look(other), "words after {from} events");
-    assert_eq!(rt; field.notes(), other.notes(), "notes after {from} events");
+    if look(field) != look(other) || field.notes() != other.notes() {
+        return Err(Fail::new(format_args!("words or notes after {from} events")));
+    }
     let mut count = from;
     for _more in 0..4 {
-        let event = field.event(count);
-        assert_eq!(rt; event, other.event(count), "event {count}");
-        if event.is_none() {
-            return count;
+        if !same_event(field, other, count)? {
+            return Ok(count);
         }
         count = count.saturating_add(1);
     }
-    count
+    Ok(count)
+}
+
+// Both machines have these many events, and no more.
+fn agree_at_the_end<F: Field, G: Field>(field: &F, other: &G, count: u64) -> Result<(), Fail> {
+    for k in 0..count {
+        same_event(field, other, k)?;
+    }
+    if same_event(field, other, count)? || count <= u64::from(TURNS) / 2 {
+        return Err(Fail::new(format_args!("{count} events")));
+    }
+    Ok(())
 }
 
 // Each turn makes one call on both machines. At the end the whole record is compared once more.
-fn run_both<F: Field, G: Field>(
-    rt: &impl Abort,
-    alloc: Global,
-    field: &mut F,
-    other: &mut G,
-) -> Result<(), Fail> {
-    load(field, alloc)?;
-    load(other, alloc)?;
+fn run_both<F: Field, G: Field>(alloc: Global, field: &mut F, other: &mut G) -> Result<(), Fail> {
+    let script = five_faults(alloc)?;
+    load_board(field, alloc, Pattern::Mix(9), &script)?;
+    load_board(other, alloc, Pattern::Mix(9), &script)?;
     let mut random = 7;
     let mut count = 0;
     for _turn in 0..TURNS {
         random = next(random);
         step(field, alloc, random)?;
         step(other, alloc, random)?;
-        count = agree(rt, field, other, count);
+        count = agree(field, other, count)?;
     }
-    assert!(rt; count > u64::from(TURNS) / 2);
-    for k in 0..count {
-        assert_eq!(rt; field.event(k), other.event(k), "event {k} at the end");
-    }
-    assert_eq!(rt; field.event(count), None);
-    Ok(())
+    agree_at_the_end(field, other, count)
 }
 
 #[test]
@@ -294,5 +226,5 @@ fn the_two_machines_agree(rt: HostRuntime) -> Result<(), Fail> {
     let alloc = rt.alloc();
     let mut plain = MapField::empty(alloc);
     let mut flat = ScriptField::empty(alloc);
-    run_both(&rt, alloc, &mut plain, &mut flat)
+    run_both(alloc, &mut plain, &mut flat)
 }

@@ -1,7 +1,7 @@
 -- Ranges gathered from a list, one element after another.
-use Rattle.std.proofs.Common.{◌≡◌, ℕ, ◌+◌, ◌<◌, List, [], ◌∷◌, ◌++◌, length, drop, get_or, map, All, refl, sym, ap, subst, ◌∙◌, append_assoc}
+use Rattle.std.proofs.Common.{◌≡◌, ℕ, ◌+◌, ◌<◌, ◌≤◌, List, [], ◌∷◌, ◌++◌, length, drop, get_or, map, All, refl, sym, ap, subst, ◌∙◌, append_assoc}
 use Rattle.std.specs.List.{flat_map}
-use Rattle.std.proofs.lemmas.List.{drop_more}
+use Rattle.std.proofs.lemmas.List.{drop_all, append-nil}
 use Rattle.std.proofs.lemmas.List.Elements.{All-nil, All-cons, All-head, All-tail, All-append}
 use Rattle.std.proofs.lemmas.Option.{slice_get_read}
 use Rattle.std.specs.Option.{option_map_or}
@@ -21,27 +21,38 @@ pub full_where_ordered : (rs : List Range) → IsOrdered rs → All IsFull rs
 full_where_ordered [] order = All-nil IsFull
 full_where_ordered (r ∷ rs) order = All-cons IsFull r rs order.0 (full_where_ordered rs order.2)
 
--- one element more is gathered
-pub gathered_more : {X : Type 0} (f : X → List Range) (xs : List X) (i : ℕ) (x : X) (old own new all : List Range)
-    → drop i xs ≡ x ∷ drop (i + 1) xs → own ≡ f x → new ≡ old ++ own
-    → old ++ flat_map f (drop i xs) ≡ all → new ++ flat_map f (drop (i + 1) xs) ≡ all
-gathered_more f xs i x old own new all ahead is grown whole =
-    let left : flat_map f (drop i xs) ≡ f x ++ flat_map f (drop (i + 1) xs) = ap (flat_map f) ahead in
-    let joined : (old ++ f x) ++ flat_map f (drop (i + 1) xs) ≡ all =
-    append_assoc old (f x) (flat_map f (drop (i + 1) xs)) ∙ ap (λ (rs : List Range). old ++ rs) (sym left) ∙ whole in
-    ap (λ (rs : List Range). rs ++ flat_map f (drop (i + 1) xs)) (grown ∙ ap (λ (rs : List Range). old ++ rs) is) ∙ joined
+-- a list of ranges to which those of the first i elements were added, from what it was before: with those of the others it is
+-- whole, and each range has places where the others do
+pub record Gathers {X : Type 0} (f : X → List Range) (xs : List X) (i : ℕ) (before now : List Range) : Type 0 where
+  pub whole : now ++ flat_map f (drop i xs) ≡ before ++ flat_map f xs
+  pub full : All IsFull (flat_map f (drop i xs)) → All IsFull (flat_map f xs)
 
-pub full_more : {X : Type 0} (f : X → List Range) (xs : List X) (i : ℕ) (x : X) (own : List Range)
-    → drop i xs ≡ x ∷ drop (i + 1) xs → own ≡ f x → All IsFull own
-    → (All IsFull (flat_map f (drop i xs)) → All IsFull (flat_map f xs))
-    → All IsFull (flat_map f (drop (i + 1) xs)) → All IsFull (flat_map f xs)
-full_more f xs i x own ahead is full before after =
-    let here : All IsFull (f x) = subst (All IsFull) is full in
-    before (subst (All IsFull) (sym (ap (flat_map f) ahead)) (All-append IsFull (f x) (flat_map f (drop (i + 1) xs)) here after))
+-- no element yet
+pub gathers_none : {X : Type 0} (f : X → List Range) (xs : List X) (before : List Range) → Gathers f xs 0 before before
+gathers_none f xs before = record { whole = refl; full = λ full. full }
 
--- the element at an index stands before those behind it
-pub ahead_read : {X : Type 0} (xs : List X) (i : ℕ) (x : X) → i < length xs → x ≡ get_or xs i x → drop i xs ≡ x ∷ drop (i + 1) xs
-ahead_read xs i x within is = drop_more xs i x within ∙ ap (λ y. y ∷ drop (i + 1) xs) (sym is)
+-- one element more
+pub gathers_more : {X : Type 0} (f : X → List Range) (xs : List X) (i : ℕ) (x : X) (before old own new : List Range)
+    → drop i xs ≡ x ∷ drop (i + 1) xs → own ≡ f x → All IsFull own → new ≡ old ++ own
+    → Gathers f xs i before old → Gathers f xs (i + 1) before new
+gathers_more f xs i x before old own new ahead is full grown so =
+    let rest : List Range = flat_map f (drop (i + 1) xs) in
+    let left : flat_map f (drop i xs) ≡ f x ++ rest = ap (flat_map f) ahead in
+    let joined : (old ++ f x) ++ rest ≡ before ++ flat_map f xs =
+    append_assoc old (f x) rest ∙ ap (λ (rs : List Range). old ++ rs) (sym left) ∙ so.whole in
+    record {
+      whole = ap (λ (rs : List Range). rs ++ rest) (grown ∙ ap (λ (rs : List Range). old ++ rs) is) ∙ joined;
+      full = λ after. so.full (subst (All IsFull) (sym left) (All-append IsFull (f x) rest (subst (All IsFull) is full) after));
+    }
+
+-- all elements
+pub gathers_all : {X : Type 0} (f : X → List Range) (xs : List X) (i : ℕ) (before now : List Range) → length xs ≤ i → Gathers f xs i before now
+    → (now ≡ before ++ flat_map f xs) × All IsFull (flat_map f xs)
+gathers_all f xs i before now past so =
+    let none : flat_map f (drop i xs) ≡ [] = ap (flat_map f) (drop_all i xs past) in (
+      sym (append-nil now) ∙ ap (λ (rs : List Range). now ++ rs) (sym none) ∙ so.whole,
+      so.full (subst (All IsFull) (sym none) (All-nil IsFull)),
+    )
 
 -- what is found of a member
 pub side_found : (side : Side) (feet : List Foot) (id : NodeId) (foot : Foot) (set : List Range)

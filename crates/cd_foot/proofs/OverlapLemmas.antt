@@ -1,26 +1,28 @@
 -- Siblings compared pair by pair: what is left to compare gives the answer to the whole.
-use Rattle.std.proofs.Common.{◌≡◌, ℕ, zero, suc, ◌+◌, ◌<◌, ◌≤◌, Bool, true, ◌&&◌, ◌||◌, List, [], ◌∷◌, ◌++◌, length, drop, Option, None, Some, slice_get, refl, sym, ap, subst, ◌∙◌, inl, inr, arith, IsSomeAnd}
+use Rattle.std.proofs.Common.{◌≡◌, ℕ, zero, suc, ◌+◌, ◌<◌, ◌≤◌, Bool, true, ◌&&◌, ◌||◌, List, [], ◌∷◌, ◌++◌, length, drop, get_or, All, Option, None, Some, slice_get, refl, sym, ap, subst, ◌∙◌, inl, inr, arith, IsSomeAnd}
 use Rattle.std.proofs.lemmas.List.{drop_more, drop_all}
-use Rattle.std.proofs.lemmas.Option.{slice_get_within, get_or_from_slice_get}
 use Rattle.cd_base.specs.declared.place.Place.{Place}
 use Rattle.cd_base.specs.declared.place.Range.{Range}
 use Rattle.cd_base.specs.Words.{PlaceSet, in_ranges}
 use Rattle.cd_base.specs.Places.{IsLeast, in_both}
+use Rattle.cd_base.proofs.ListLemmas.{drop-read, drop-found}
+use Rattle.cd_base.proofs.LeastLemmas.{IsLeast-of}
 use Rattle.cd_tree.specs.declared.domain.NodeId.{NodeId}
 use Rattle.cd_tree.specs.declared.domain.Item.{Item}
 use Rattle.cd_tree.specs.declared.domain.Item.TheVariants.{Run, Group}
 use Rattle.cd_tree.specs.declared.domain.Domain.{Domain}
 use Rattle.cd_tree.specs.declared.refusal.Refusal.{Refusal}
 use Rattle.cd_tree.specs.declared.refusal.Refusal.TheVariants.{Overlap}
-use Rattle.cd_tree.specs.Domains.{Node, Body, Members, node, stop, run, group, no_more, member, put_first, members_by, body_by, nodes_from, node_of, number_of, body_of, root_of}
-use Rattle.cd_tree.specs.Meaning.{node_reach, node_writes, clash, DoNotClash, IsApartFrom, MembersApart, GroupsApart, IsDisjoint}
+use Rattle.cd_tree.specs.Domains.{Node, Body, Members, node, stop, run, group, no_more, member, members_by, body_by, nodes_from, node_of, number_of, body_of, root_of}
+use Rattle.cd_tree.specs.Meaning.{node_reach, node_writes, clash, IsApartFrom, MembersApart, GroupsApart, IsDisjoint}
 use Rattle.cd_tree.specs.TreeModel.{TreeModel, IsTree}
-use Rattle.cd_tree.specs.Laws.{NestedViewFollows, OfEach, DisjointByDomains}
+use Rattle.cd_tree.specs.Laws.{OfEach, DisjointByDomains}
 use Rattle.cd_tree.specs.Refusals.{FirstOf}
+use Rattle.cd_tree.proofs.View.{nested_view_follows, length-nodes_from, members_by-found}
 use Rattle.cd_foot.specs.declared.footprints.Foot.{Foot}
 use Rattle.cd_foot.specs.Feet.{IsFoot, AreFeet}
 use Rattle.cd_foot.specs.Overlaps.{pairs_with, pairs_among, sibling_pairs, OverlapOf, FirstOverlap}
-use Rattle.cd_foot.specs.Siblings.{item_pairs}
+use Rattle.cd_foot.specs.Siblings.{PairOf, item_pairs}
 
 -- ---- the first refusal of two lists, one after the other
 
@@ -41,6 +43,11 @@ none_before : {A : Type 0} (Says : A → Option Refusal → Type 0) (xs ys : Lis
 none_before Says [] ys says = (refl, says)
 none_before Says (x ∷ xs) ys says = let parts = none_before Says xs ys says.1 in ((says.0, parts.0), parts.1)
 
+-- a list of one answers as that one does
+one_alone : {A : Type 0} (Says : A → Option Refusal → Type 0) (x : A) (answer : Option Refusal) → Says x answer → FirstOf Says (x ∷ []) answer
+one_alone Says x None says = (says, refl)
+one_alone Says x (Some r) says = inl says
+
 -- a list does not answer both ways where none of its elements does
 one_answer : {A : Type 0} (Says : A → Option Refusal → Type 0) (r : Refusal) → ((x : A) → Says x None → Says x (Some r) → ⊥)
     → (xs : List A) → FirstOf Says xs None → FirstOf Says xs (Some r) → ⊥
@@ -54,15 +61,25 @@ one_answer Says r never (x ∷ xs) none some = elim some [
 abbrev pub Leads : {A : Type 0} → (A → Option Refusal → Type 0) → List A → List A → Type 0
 Leads Says rest whole = (answer : Option Refusal) → FirstOf Says rest answer → FirstOf Says whole answer
 
-pub leads_on : {A : Type 0} (Says : A → Option Refusal → Type 0) (left part rest whole : List A)
+leads_on : {A : Type 0} (Says : A → Option Refusal → Type 0) (left part rest whole : List A)
     → left ≡ part ++ rest → FirstOf Says part None → Leads Says left whole → Leads Says rest whole
 leads_on Says left part rest whole is none leads answer says =
     leads answer (subst (λ xs. FirstOf Says xs answer) (sym is) (first_none Says part rest answer none says))
 
-pub leads_out : {A : Type 0} (Says : A → Option Refusal → Type 0) (left part rest whole : List A) (r : Refusal)
+leads_out : {A : Type 0} (Says : A → Option Refusal → Type 0) (left part rest whole : List A) (r : Refusal)
     → left ≡ part ++ rest → FirstOf Says part (Some r) → Leads Says left whole → FirstOf Says whole (Some r)
 leads_out Says left part rest whole r is some leads =
     leads (Some r) (subst (λ xs. FirstOf Says xs (Some r)) (sym is) (first_some Says part rest r some))
+
+-- a part more was asked: where it refuses nothing, what is left still answers for the whole; else the whole refuses the same
+abbrev pub Passed : {A : Type 0} → (A → Option Refusal → Type 0) → List A → List A → Option Refusal → Type 0
+Passed Says rest whole None = Leads Says rest whole
+Passed Says rest whole (Some r) = FirstOf Says whole (Some r)
+
+passed : {A : Type 0} (Says : A → Option Refusal → Type 0) (left part rest whole : List A) (answer : Option Refusal)
+    → left ≡ part ++ rest → FirstOf Says part answer → Leads Says left whole → Passed Says rest whole answer
+passed Says left part rest whole None is none leads = leads_on Says left part rest whole is none leads
+passed Says left part rest whole (Some r) is some leads = leads_out Says left part rest whole r is some leads
 
 -- ---- domains found by their numbers
 
@@ -74,12 +91,12 @@ listed_node at (domain ∷ domains) (suc k) within =
     let found = listed_node (suc at) domains k (omega arith) in
     (found.0, found.1, (let number = found.2 in omega (arith, number)))
 
-pub found_node : (domains : List Domain) (id : NodeId) → id.0 < length domains → (d : Node) × (node_of domains id ≡ Some d) × (id.0 ≡ number_of d)
+found_node : (domains : List Domain) (id : NodeId) → id.0 < length domains → (d : Node) × (node_of domains id ≡ Some d) × (id.0 ≡ number_of d)
 found_node domains id within =
     let found = listed_node 0 domains id.0 within in
     (found.0, found.1, (let number = found.2 in omega (arith, number)))
 
-pub number_found : (domains : List Domain) (id : NodeId) (d : Node) → node_of domains id ≡ Some d → id.0 < length domains → id.0 ≡ number_of d
+number_found : (domains : List Domain) (id : NodeId) (d : Node) → node_of domains id ≡ Some d → id.0 < length domains → id.0 ≡ number_of d
 number_found domains id d found within =
     let listed = found_node domains id within in
     let same : listed.0 ≡ d = cc in
@@ -87,17 +104,13 @@ number_found domains id d found within =
 
 -- ---- what is left of a list of members or items
 
-pub members_by-found : (find : NodeId → Option Node) (id : NodeId) (ids : List NodeId) (d : Node) → find id ≡ Some d
-    → members_by find (id ∷ ids) ≡ member d (members_by find ids)
-members_by-found find id ids d found = ap (λ (o : Option Node). put_first o (members_by find ids)) found
-
-pub pairs_with-left : (find : NodeId → Option Node) (one : Node) (left : List NodeId) (id : NodeId) (ids : List NodeId) (d : Node)
+pairs_with-left : (find : NodeId → Option Node) (one : Node) (left : List NodeId) (id : NodeId) (ids : List NodeId) (d : Node)
     → left ≡ id ∷ ids → find id ≡ Some d
     → pairs_with one (members_by find left) ≡ ((one, d) ∷ []) ++ pairs_with one (members_by find ids)
 pairs_with-left find one left id ids d is found =
     ap (λ (l : List NodeId). pairs_with one (members_by find l)) is ∙ ap (pairs_with one) (members_by-found find id ids d found)
 
-pub pairs_among-left : (find : NodeId → Option Node) (left : List NodeId) (id : NodeId) (ids seen : List NodeId) (d : Node)
+pairs_among-left : (find : NodeId → Option Node) (left : List NodeId) (id : NodeId) (ids seen : List NodeId) (d : Node)
     → left ≡ id ∷ ids → seen ≡ ids → find id ≡ Some d
     → pairs_among (members_by find left) ≡ pairs_with d (members_by find seen) ++ pairs_among (members_by find ids)
 pairs_among-left find left id ids seen d is same found =
@@ -109,60 +122,50 @@ sibling_pairs-item : (find : NodeId → Option Node) (item : Item) (items : List
 sibling_pairs-item find (Run op) items = refl
 sibling_pairs-item find (Group ids) items = refl
 
-pub sibling_pairs-left : (find : NodeId → Option Node) (left : List Item) (item : Item) (items : List Item) → left ≡ item ∷ items
+sibling_pairs-left : (find : NodeId → Option Node) (left : List Item) (item : Item) (items : List Item) → left ≡ item ∷ items
     → sibling_pairs (body_by find left) ≡ item_pairs find item ++ sibling_pairs (body_by find items)
 sibling_pairs-left find left item items is = ap (λ (l : List Item). sibling_pairs (body_by find l)) is ∙ sibling_pairs-item find item items
 
 -- ---- one pair
 
-foot_of : (domains : List Domain) (feet : List Foot) (id : NodeId) (d : Node) (set : List Range) (side : Foot → List Range)
+-- what a footprint records on one of its sides is what the domain has there
+side_places : (domains : List Domain) (feet : List Foot) (id : NodeId) (d : Node) (set : List Range) (side : Foot → List Range) (places : Node → PlaceSet)
+    → ((foot : Foot) → IsFoot d foot → (p : Place) → in_ranges (side foot) p ≡ places d p)
     → AreFeet domains feet → node_of domains id ≡ Some d → IsSomeAnd (slice_get feet id.0) (λ foot. set ≡ side foot)
-    → (foot : Foot) × IsFoot d foot × (set ≡ side foot)
-foot_of domains feet id d set side are found says = of_some (slice_get feet id.0) refl says
+    → (p : Place) → in_ranges set p ≡ places d p
+side_places domains feet id d set side places have are found says p = of_some (slice_get feet id.0) refl says
   where
-    of_some : (o : Option Foot) → slice_get feet id.0 ≡ o → IsSomeAnd o (λ foot. set ≡ side foot) → (foot : Foot) × IsFoot d foot × (set ≡ side foot)
+    of_some : (o : Option Foot) → slice_get feet id.0 ≡ o → IsSomeAnd o (λ foot. set ≡ side foot) → in_ranges set p ≡ places d p
     of_some None is says = absurd says
-    of_some (Some foot) is says = (foot, are.each id d foot found is, says)
+    of_some (Some foot) is says = ap (λ (rs : List Range). in_ranges rs p) says ∙ have foot (are.each id d foot found is) p
 
-pub writes_places : (domains : List Domain) (feet : List Foot) (id : NodeId) (d : Node) (set : List Range)
-    → AreFeet domains feet → node_of domains id ≡ Some d → IsSomeAnd (slice_get feet id.0) (λ foot. set ≡ foot.writes)
-    → (p : Place) → in_ranges set p ≡ node_writes d p
-writes_places domains feet id d set are found says p =
-    let foot = foot_of domains feet id d set (λ foot. foot.writes) are found says in
-    ap (λ (rs : List Range). in_ranges rs p) foot.2 ∙ foot.1.writes p
-
-pub reach_places : (domains : List Domain) (feet : List Foot) (id : NodeId) (d : Node) (set : List Range)
-    → AreFeet domains feet → node_of domains id ≡ Some d → IsSomeAnd (slice_get feet id.0) (λ foot. set ≡ foot.reach)
-    → (p : Place) → in_ranges set p ≡ node_reach d p
-reach_places domains feet id d set are found says p =
-    let foot = foot_of domains feet id d set (λ foot. foot.reach) are found says in
-    ap (λ (rs : List Range). in_ranges rs p) foot.2 ∙ foot.1.reach p
-
--- one set of places for another that has the same
-pub least_of_same : (s t : PlaceSet) (answer : Option Place) → ((p : Place) → s p ≡ t p) → IsLeast s answer → IsLeast t answer
-least_of_same s t None same least = λ p. sym (same p) ∙ least p
-least_of_same s t (Some place) same least = (sym (same place) ∙ least.0, λ p there. least.1 p (same p ∙ there))
-
-both_places : (rs ss : List Range) (s t : PlaceSet) → ((p : Place) → in_ranges rs p ≡ s p) → ((p : Place) → in_ranges ss p ≡ t p)
-    → (p : Place) → in_both rs ss p ≡ (s p && t p)
-both_places rs ss s t e f p = ap (λ (b : Bool). b && in_ranges ss p) (e p) ∙ ap (λ (b : Bool). s p && b) (f p)
-
--- the least place of a clash, from both directions
-pub least_clash : (domains : List Domain) (feet : List Foot) (one other : NodeId) (d e : Node) (w v r q : List Range) (written reached answer : Option Place)
+-- the first of two domains writes what the second reaches
+written_reached : (domains : List Domain) (feet : List Foot) (one other : NodeId) (d e : Node) (w r : List Range)
     → AreFeet domains feet → node_of domains one ≡ Some d → node_of domains other ≡ Some e
     → IsSomeAnd (slice_get feet one.0) (λ foot. w ≡ foot.writes) → IsSomeAnd (slice_get feet other.0) (λ foot. r ≡ foot.reach)
-    → IsSomeAnd (slice_get feet other.0) (λ foot. v ≡ foot.writes) → IsSomeAnd (slice_get feet one.0) (λ foot. q ≡ foot.reach)
-    → IsLeast (in_both w r) written → IsLeast (in_both v q) reached
-    → ((s t : PlaceSet) → IsLeast s written → IsLeast t reached → IsLeast (λ p. s p || t p) answer)
+    → (p : Place) → in_both w r p ≡ (node_writes d p && node_reach e p)
+written_reached domains feet one other d e w r are here there written reached p =
+    ap (λ (b : Bool). b && in_ranges r p)
+    (side_places domains feet one d w (λ foot. foot.writes) node_writes (λ foot is. is.writes) are here written p)
+    ∙ ap (λ (b : Bool). node_writes d p && b)
+    (side_places domains feet other e r (λ foot. foot.reach) node_reach (λ foot is. is.reach) are there reached p)
+
+-- the least place that the first of two domains writes and the second reaches
+pub least_reached : (domains : List Domain) (feet : List Foot) (one other : NodeId) (d e : Node) (w r : List Range) (answer : Option Place)
+    → AreFeet domains feet → node_of domains one ≡ Some d → node_of domains other ≡ Some e
+    → IsSomeAnd (slice_get feet one.0) (λ foot. w ≡ foot.writes) → IsSomeAnd (slice_get feet other.0) (λ foot. r ≡ foot.reach)
+    → IsLeast (in_both w r) answer → IsLeast (λ p. node_writes d p && node_reach e p) answer
+least_reached domains feet one other d e w r answer are here there written reached least =
+    IsLeast-of (in_both w r) (λ p. node_writes d p && node_reach e p) answer
+    (written_reached domains feet one other d e w r are here there written reached) least
+
+-- the least place at which two domains clash, by the least of both directions
+pub least_clash : (d e : Node) (first second answer : Option Place)
+    → ((s t : PlaceSet) → IsLeast s first → IsLeast t second → IsLeast (λ p. s p || t p) answer)
+    → IsLeast (λ p. node_writes d p && node_reach e p) first → IsLeast (λ p. node_writes e p && node_reach d p) second
     → IsLeast (clash d e) answer
-least_clash domains feet one other d e w v r q written reached answer are here there w_is r_is v_is q_is first second both =
-    let into : PlaceSet = λ p. node_writes d p && node_reach e p in
-    let back : PlaceSet = λ p. node_writes e p && node_reach d p in
-    both into back
-    (least_of_same (in_both w r) into written
-    (both_places w r (node_writes d) (node_reach e) (writes_places domains feet one d w are here w_is) (reach_places domains feet other e r are there r_is)) first)
-    (least_of_same (in_both v q) back reached
-    (both_places v q (node_writes e) (node_reach d) (writes_places domains feet other e v are there v_is) (reach_places domains feet one d q are here q_is)) second)
+least_clash d e first second answer both into back =
+    both (λ p. node_writes d p && node_reach e p) (λ p. node_writes e p && node_reach d p) into back
 
 -- ---- whether siblings are apart, and the first that are not
 
@@ -240,118 +243,89 @@ not_disjoint_where_some tree is law r some disjoint =
 
 -- ---- a step of a loop
 
--- one pair more is apart
-pub pair_on : (domains : List Domain) (feet : List Foot) (one other : NodeId) (others rest : List NodeId) (d : Node) (whole : List (Node × Node))
-    → AreFeet domains feet → other.0 < length feet → others ≡ other ∷ rest
-    → ((e : Node) → node_of domains other ≡ Some e → DoNotClash d e)
-    → Leads OverlapOf (pairs_with d (members_by (node_of domains) others)) whole
-    → Leads OverlapOf (pairs_with d (members_by (node_of domains) rest)) whole
-pair_on domains feet one other others rest d whole are within ahead apart leads =
-    let found = found_node domains other (let size = are.size in omega (arith, size, within)) in
-    leads_on OverlapOf (pairs_with d (members_by (node_of domains) others)) ((d, found.0) ∷ [])
-    (pairs_with d (members_by (node_of domains) rest)) whole
-    (pairs_with-left (node_of domains) d others other rest found.0 ahead found.1) (apart found.0 found.1, refl) leads
+-- a number where a list has none
+abbrev no_id : NodeId
+no_id = record { 0 = 0 }
 
--- one pair interferes
-pub pair_out : (domains : List Domain) (feet : List Foot) (one other : NodeId) (others rest : List NodeId) (d : Node) (place : Place) (whole : List (Node × Node))
-    → AreFeet domains feet → one.0 < length feet → other.0 < length feet → node_of domains one ≡ Some d → others ≡ other ∷ rest
-    → ((e : Node) → node_of domains other ≡ Some e → IsLeast (clash d e) (Some place))
-    → Leads OverlapOf (pairs_with d (members_by (node_of domains) others)) whole
-    → FirstOf OverlapOf whole (Some (Overlap one other place))
-pair_out domains feet one other others rest d place whole are here there is ahead least leads =
+of_pair : (one other : NodeId) (d e : Node) (answer : Option Refusal) → one.0 ≡ number_of d → other.0 ≡ number_of e → PairOf one other d e answer
+    → OverlapOf (d, e) answer
+of_pair one other d e None first second apart = apart
+of_pair one other d e (Some (Overlap a b place)) first second says =
+    (ap (λ (id : NodeId). id.0) says.0 ∙ first, ap (λ (id : NodeId). id.0) says.1 ∙ second, says.2)
+of_pair one other d e (Some _) first second never = absurd never
+
+-- one pair more was asked
+pub pair_passed : (domains : List Domain) (feet : List Foot) (one : NodeId) (others : List NodeId) (i : ℕ) (d : Node) (whole : List (Node × Node))
+    (answer : Option Refusal) → AreFeet domains feet → one.0 < length feet → All (λ (id : NodeId). id.0 < length feet) others → i < length others
+    → node_of domains one ≡ Some d
+    → ((e : Node) → node_of domains (get_or others i no_id) ≡ Some e → PairOf one (get_or others i no_id) d e answer)
+    → Leads OverlapOf (pairs_with d (members_by (node_of domains) (drop i others))) whole
+    → Passed OverlapOf (pairs_with d (members_by (node_of domains) (drop (i + 1) others))) whole answer
+pair_passed domains feet one others i d whole answer are here all more is says leads =
     let size = are.size in
+    let other : NodeId = get_or others i no_id in
+    let there : other.0 < length feet = all i no_id more in
     let found = found_node domains other (omega (arith, size, there)) in
     let first : one.0 ≡ number_of d = number_found domains one d is (omega (arith, size, here)) in
-    leads_out OverlapOf (pairs_with d (members_by (node_of domains) others)) ((d, found.0) ∷ [])
-    (pairs_with d (members_by (node_of domains) rest)) whole (Overlap one other place)
-    (pairs_with-left (node_of domains) d others other rest found.0 ahead found.1)
-    (inl (first, found.2, least found.0 found.1)) leads
+    let part : FirstOf OverlapOf ((d, found.0) ∷ []) answer =
+    one_alone OverlapOf (d, found.0) answer (of_pair one other d found.0 answer first found.2 (says found.0 found.1)) in
+    passed OverlapOf (pairs_with d (members_by (node_of domains) (drop i others))) ((d, found.0) ∷ [])
+    (pairs_with d (members_by (node_of domains) (drop (i + 1) others))) whole answer
+    (pairs_with-left (node_of domains) d (drop i others) other (drop (i + 1) others) found.0 (drop_more others i no_id more) found.1) part leads
 
--- one member more is apart from those behind it
-pub member_on : (domains : List Domain) (feet : List Foot) (one : NodeId) (left rest seen : List NodeId) (whole : List (Node × Node))
-    → AreFeet domains feet → one.0 < length feet → left ≡ one ∷ rest → seen ≡ rest
-    → ((d : Node) → AreFeet domains feet → node_of domains one ≡ Some d → FirstOf OverlapOf (pairs_with d (members_by (node_of domains) seen)) None)
-    → Leads OverlapOf (pairs_among (members_by (node_of domains) left)) whole
-    → Leads OverlapOf (pairs_among (members_by (node_of domains) rest)) whole
-member_on domains feet one left rest seen whole are within ahead same apart leads =
-    let found = found_node domains one (let size = are.size in omega (arith, size, within)) in
-    leads_on OverlapOf (pairs_among (members_by (node_of domains) left)) (pairs_with found.0 (members_by (node_of domains) seen))
-    (pairs_among (members_by (node_of domains) rest)) whole
-    (pairs_among-left (node_of domains) left one rest seen found.0 ahead same found.1) (apart found.0 are found.1) leads
+-- one member more was compared with those after it
+pub member_passed : (domains : List Domain) (feet : List Foot) (members : List NodeId) (i : ℕ) (seen : List NodeId) (whole : List (Node × Node))
+    (answer : Option Refusal) → AreFeet domains feet → All (λ (id : NodeId). id.0 < length feet) members → i < length members → seen ≡ drop (i + 1) members
+    → ((d : Node) → AreFeet domains feet → node_of domains (get_or members i no_id) ≡ Some d
+    → FirstOf OverlapOf (pairs_with d (members_by (node_of domains) seen)) answer)
+    → Leads OverlapOf (pairs_among (members_by (node_of domains) (drop i members))) whole
+    → Passed OverlapOf (pairs_among (members_by (node_of domains) (drop (i + 1) members))) whole answer
+member_passed domains feet members i seen whole answer are all more same says leads =
+    let size = are.size in
+    let one : NodeId = get_or members i no_id in
+    let here : one.0 < length feet = all i no_id more in
+    let found = found_node domains one (omega (arith, size, here)) in
+    passed OverlapOf (pairs_among (members_by (node_of domains) (drop i members))) (pairs_with found.0 (members_by (node_of domains) seen))
+    (pairs_among (members_by (node_of domains) (drop (i + 1) members))) whole answer
+    (pairs_among-left (node_of domains) (drop i members) one (drop (i + 1) members) seen found.0 (drop_more members i no_id more) same found.1)
+    (says found.0 are found.1) leads
 
--- one member interferes with one behind it
-pub member_out : (domains : List Domain) (feet : List Foot) (one : NodeId) (left rest seen : List NodeId) (whole : List (Node × Node)) (r : Refusal)
-    → AreFeet domains feet → one.0 < length feet → left ≡ one ∷ rest → seen ≡ rest
-    → ((d : Node) → AreFeet domains feet → node_of domains one ≡ Some d → FirstOf OverlapOf (pairs_with d (members_by (node_of domains) seen)) (Some r))
-    → Leads OverlapOf (pairs_among (members_by (node_of domains) left)) whole
-    → FirstOf OverlapOf whole (Some r)
-member_out domains feet one left rest seen whole r are within ahead same says leads =
-    let found = found_node domains one (let size = are.size in omega (arith, size, within)) in
-    leads_out OverlapOf (pairs_among (members_by (node_of domains) left)) (pairs_with found.0 (members_by (node_of domains) seen))
-    (pairs_among (members_by (node_of domains) rest)) whole r
-    (pairs_among-left (node_of domains) left one rest seen found.0 ahead same found.1) (says found.0 are found.1) leads
-
--- one item more has no members that interfere
-pub item_on : (find : NodeId → Option Node) (left : List Item) (item : Item) (rest : List Item) (whole : List (Node × Node)) → left ≡ item ∷ rest
-    → FirstOf OverlapOf (item_pairs find item) None
-    → Leads OverlapOf (sibling_pairs (body_by find left)) whole → Leads OverlapOf (sibling_pairs (body_by find rest)) whole
-item_on find left item rest whole ahead says leads =
-    leads_on OverlapOf (sibling_pairs (body_by find left)) (item_pairs find item) (sibling_pairs (body_by find rest)) whole
-    (sibling_pairs-left find left item rest ahead) says leads
-
--- one item has two that do
-pub item_out : (find : NodeId → Option Node) (left : List Item) (item : Item) (rest : List Item) (whole : List (Node × Node)) (r : Refusal)
-    → left ≡ item ∷ rest → FirstOf OverlapOf (item_pairs find item) (Some r)
-    → Leads OverlapOf (sibling_pairs (body_by find left)) whole → FirstOf OverlapOf whole (Some r)
-item_out find left item rest whole r ahead says leads =
-    leads_out OverlapOf (sibling_pairs (body_by find left)) (item_pairs find item) (sibling_pairs (body_by find rest)) whole r
-    (sibling_pairs-left find left item rest ahead) says leads
+-- one item more was asked
+pub item_passed : (find : NodeId → Option Node) (items : List Item) (i : ℕ) (item : Item) (whole : List (Node × Node)) (answer : Option Refusal)
+    → i < length items → item ≡ get_or items i item → FirstOf OverlapOf (item_pairs find item) answer
+    → Leads OverlapOf (sibling_pairs (body_by find (drop i items))) whole
+    → Passed OverlapOf (sibling_pairs (body_by find (drop (i + 1) items))) whole answer
+item_passed find items i item whole answer more is says leads =
+    passed OverlapOf (sibling_pairs (body_by find (drop i items))) (item_pairs find item) (sibling_pairs (body_by find (drop (i + 1) items))) whole answer
+    (sibling_pairs-left find (drop i items) item (drop (i + 1) items) (drop-read items i item more is)) says leads
 
 -- what a program's domain says of itself, by the items seen
-says_of : (tree : TreeModel) → NestedViewFollows → IsTree tree → (id : NodeId) (domain : Domain) (items : List Item) (answer : Option Refusal)
+says_of : (tree : TreeModel) → IsTree tree → (id : NodeId) (domain : Domain) (items : List Item) (answer : Option Refusal)
     → slice_get tree.domains id.0 ≡ Some domain → items ≡ domain.items
     → FirstOf OverlapOf (sibling_pairs (body_by (node_of tree.domains) items)) answer
     → (d : Node) × (node_of tree.domains id ≡ Some d) × OfDomain d answer
-says_of tree views is id domain items answer there same says = (
+says_of tree is id domain items answer there same says = (
   node id domain (body_by (node_of tree.domains) domain.items),
-  views tree is id domain there,
+  nested_view_follows tree is id domain there,
   subst (λ (l : List Item). FirstOf OverlapOf (sibling_pairs (body_by (node_of tree.domains) l)) answer) same says,
 )
 
-ahead_found : {X : Type 0} (xs : List X) (k : ℕ) (x : X) → slice_get xs k ≡ Some x → drop k xs ≡ x ∷ drop (k + 1) xs
-ahead_found xs k x is =
-    drop_more xs k x (slice_get_within xs k x is) ∙ ap (λ y. y ∷ drop (k + 1) xs) (get_or_from_slice_get xs k x x is)
-
--- one domain more
-pub domain_on : (tree : TreeModel) → NestedViewFollows → IsTree tree → (id : NodeId) (domain : Domain) (items : List Item)
+-- one domain more was asked
+pub domain_passed : (tree : TreeModel) → IsTree tree → (id : NodeId) (domain : Domain) (items : List Item) (answer : Option Refusal)
     → slice_get tree.domains id.0 ≡ Some domain → items ≡ domain.items
-    → FirstOf OverlapOf (sibling_pairs (body_by (node_of tree.domains) items)) None
+    → FirstOf OverlapOf (sibling_pairs (body_by (node_of tree.domains) items)) answer
     → Leads OfDomain (drop id.0 (nodes_from 0 tree.domains)) (nodes_from 0 tree.domains)
-    → Leads OfDomain (drop (id.0 + 1) (nodes_from 0 tree.domains)) (nodes_from 0 tree.domains)
-domain_on tree views is id domain items there same says leads =
+    → Passed OfDomain (drop (id.0 + 1) (nodes_from 0 tree.domains)) (nodes_from 0 tree.domains) answer
+domain_passed tree is id domain items answer there same says leads =
     let nodes = nodes_from 0 tree.domains in
-    let one = says_of tree views is id domain items None there same says in
-    leads_on OfDomain (drop id.0 nodes) (one.0 ∷ []) (drop (id.0 + 1) nodes) nodes (ahead_found nodes id.0 one.0 one.1) (one.2, refl) leads
-
--- one domain refuses
-pub domain_out : (tree : TreeModel) → NestedViewFollows → IsTree tree → (id : NodeId) (domain : Domain) (items : List Item) (r : Refusal)
-    → slice_get tree.domains id.0 ≡ Some domain → items ≡ domain.items
-    → FirstOf OverlapOf (sibling_pairs (body_by (node_of tree.domains) items)) (Some r)
-    → Leads OfDomain (drop id.0 (nodes_from 0 tree.domains)) (nodes_from 0 tree.domains)
-    → FirstOverlap tree.domains (Some r)
-domain_out tree views is id domain items r there same says leads =
-    let nodes = nodes_from 0 tree.domains in
-    let one = says_of tree views is id domain items (Some r) there same says in
-    leads_out OfDomain (drop id.0 nodes) (one.0 ∷ []) (drop (id.0 + 1) nodes) nodes r (ahead_found nodes id.0 one.0 one.1) (inl one.2) leads
-
-nodes_length : (at : ℕ) (domains : List Domain) → length (nodes_from at domains) ≡ length domains
-nodes_length at [] = refl
-nodes_length at (domain ∷ domains) = ap suc (nodes_length (suc at) domains)
+    let one = says_of tree is id domain items answer there same says in
+    passed OfDomain (drop id.0 nodes) (one.0 ∷ []) (drop (id.0 + 1) nodes) nodes answer (drop-found nodes id.0 one.0 one.1)
+    (one_alone OfDomain one.0 answer one.2) leads
 
 -- no domain is left
 pub none_left : (domains : List Domain) (count : ℕ) → length domains ≤ count
     → Leads OfDomain (drop count (nodes_from 0 domains)) (nodes_from 0 domains) → FirstOverlap domains None
 none_left domains count past leads =
     let nodes = nodes_from 0 domains in
-    let size : length nodes ≡ length domains = nodes_length 0 domains in
+    let size : length nodes ≡ length domains = length-nodes_from 0 domains in
     leads None (subst (λ (ds : List Node). FirstOf OfDomain ds None) (sym (drop_all count nodes (omega arith))) refl)

@@ -43,33 +43,30 @@ pairs_in_order : sibling_pairs
     ≡ (leaf 1, leaf 2) ∷ (leaf 1, leaf 3) ∷ (leaf 2, leaf 3) ∷ (leaf 5, leaf 6) ∷ []
 pairs_in_order = refl
 
--- regions y and z of four words
-abbrev y : Range
-y = part 0 0 4
+-- all of a region of four words
+abbrev all_of : ℕ → Range
+all_of region = part region 0 4
 
-abbrev z : Range
-z = part 1 0 4
-
--- one member fills y; the other fills z, and preserves the last word of y
+-- one member fills the first region; the other fills the second, and preserves the last word of the first
 abbrev clashing : List Domain
 clashing =
-    domain (copied y ∷ copied z ∷ []) (Group (number 1 ∷ number 2 ∷ []) ∷ [])
-    ∷ domain (copied y ∷ []) (Run (Fill y 7) ∷ [])
-    ∷ domain (copied z ∷ copied (part 0 3 4) ∷ []) (Run (Fill z 9) ∷ [])
+    domain (copied (all_of 0) ∷ copied (all_of 1) ∷ []) (Group (number 1 ∷ number 2 ∷ []) ∷ [])
+    ∷ domain (copied (all_of 0) ∷ []) (Run (Fill (all_of 0) 7) ∷ [])
+    ∷ domain (copied (all_of 1) ∷ copied (part 0 3 4) ∷ []) (Run (Fill (all_of 1) 9) ∷ [])
     ∷ []
 
 -- what the root reads and writes
-root_gathers : gathered Reads [] (domain (copied y ∷ copied z ∷ []) (Run (Axpy y 3 z) ∷ [])) ≡ y ∷ z ∷ y ∷ z ∷ []
+root_gathers : gathered Reads [] (domain (copied (all_of 0) ∷ copied (all_of 1) ∷ []) (Run (Axpy (all_of 0) 3 (all_of 1)) ∷ [])) ≡ all_of 0 ∷ all_of 1 ∷ all_of 0 ∷ all_of 1 ∷ []
 root_gathers = refl
 
-root_writes : gathered Writes [] (domain (copied y ∷ copied z ∷ []) (Run (Axpy y 3 z) ∷ [])) ≡ y ∷ []
+root_writes : gathered Writes [] (domain (copied (all_of 0) ∷ copied (all_of 1) ∷ []) (Run (Axpy (all_of 0) 3 (all_of 1)) ∷ [])) ≡ all_of 0 ∷ []
 root_writes = refl
 
 abbrev one : Node
-one = node (number 1) (domain (copied y ∷ []) (Run (Fill y 7) ∷ [])) (run (Fill y 7) stop)
+one = node (number 1) (domain (copied (all_of 0) ∷ []) (Run (Fill (all_of 0) 7) ∷ [])) (run (Fill (all_of 0) 7) stop)
 
 abbrev other : Node
-other = node (number 2) (domain (copied z ∷ copied (part 0 3 4) ∷ []) (Run (Fill z 9) ∷ [])) (run (Fill z 9) stop)
+other = node (number 2) (domain (copied (all_of 1) ∷ copied (part 0 3 4) ∷ []) (Run (Fill (all_of 1) 9) ∷ [])) (run (Fill (all_of 1) 9) stop)
 
 no_less : (region index : ℕ) → clash one other (place region index) ≡ true → stands_before (place region index) (place 0 3) ≡ false
 no_less zero zero there = absurd (cc)

@@ -52,6 +52,11 @@ abbrev pub IsItemOf : ℕ → Item → Type 0
 IsItemOf count (Run op) = All IsFull (op_writes op ∷ op_reads op)
 IsItemOf count (Group ids) = All (λ (id : NodeId). id.0 < count) ids
 
+-- a domain whose sets can be gathered beside so many footprints: its entries have places, and its items are of so many domains
+pub record CanGather (count : ℕ) (domain : Domain) : Type 0 where
+  pub entries : All (λ (entry : Entry). IsFull entry.range) domain.entries
+  pub items : All (IsItemOf count) domain.items
+
 -- the places of a domain on one side
 abbrev pub node_side : Side → Node → PlaceSet
 node_side Reads d = node_reads d

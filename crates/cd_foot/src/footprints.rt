@@ -1,8 +1,8 @@
+// Footprints: what each domain of a program reads, writes and reaches.
 ghost use Rattle.std.specs.Prelude.{◌≡◌, ◌<◌, ◌+◌, length, slice_get, Some, IfOk, IsSomeAnd};
 
 use crate::one_foot::{foot_of, no_feet};
 use cd_base::{NoMemory, Places};
-use cd_tree::laws::the_nested_view_follows_the_list;
 use cd_tree::{NodeId, Tree};
 use std::alloc::Global;
 use std::marker::Model;
@@ -39,7 +39,6 @@ impl Footprints {
         ensures { IfOk result (λ feet. AreFeet tree.now.domains feet) }
     {
         let count = tree.count();
-        the_nested_view_follows_the_list();
         let mut feet = no_feet(alloc, count)?;
         for id in (0..count).rev() {
             let foot = foot_of(alloc, tree, NodeId(id), &feet)?;

@@ -1,8 +1,11 @@
+// The places that a domain has on one side: its own, and those of its members by their footprints.
 ghost use Rattle.std.specs.Prelude.{◌≡◌, ◌++◌, ◌<◌, length, map, slice_get, OnOk, IfOk, All, IsSomeAnd};
 ghost use Rattle.std.specs.List.{flat_map};
+ghost use Rattle.cd_base.specs.declared.place.Place.{Place};
+ghost use Rattle.cd_base.specs.Words.{in_ranges};
 ghost use Rattle.cd_tree.specs.Operations.{IsFull, op_reads, op_writes};
 ghost use Rattle.cd_tree.specs.declared.domain.NodeId.{NodeId};
-ghost use Rattle.cd_foot.specs.Gathered.{op_side, foot_side, entry_side, side_at, item_side, gathered, IsItemOf};
+ghost use Rattle.cd_foot.specs.Gathered.{op_side, foot_side, entry_side, side_at, item_side, gathered, IsItemOf, CanGather};
 
 use crate::Foot;
 use cd_base::{NoMemory, Places, Range};
@@ -16,22 +19,21 @@ pub(crate) enum Side {
     Writes,
 }
 
-/// The ranges that a domain has on one side, its members' by their footprints.
-pub(crate) fn gathered(
+/// The places that a domain has on one side, its members' by their footprints.
+pub(crate) fn places_of(
     alloc: Global,
     side: Side,
     domain: &Domain,
     feet: &[Foot],
-) -> Result<Vec<Range>, NoMemory>
-    requires entries { All (λ entry. IsFull entry.range) domain.now.entries }
-    requires items { All (IsItemOf (length feet.now)) domain.now.items }
-    ensures ranges { IfOk result (λ ranges. ranges.items ≡ gathered side feet.now domain.now) }
-    ensures full { IfOk result (λ ranges. All IsFull ranges.items) }
+) -> Result<Places, NoMemory>
+    requires { CanGather (length feet.now) domain.now }
+    ensures { IfOk result (λ set. (p : Place) → in_ranges set p ≡ in_ranges (gathered side feet.now domain.now) p) }
 {
     let mut ranges = Vec::new(alloc);
     add_entries(side, domain.entries.items(), &mut ranges)?;
     add_items(side, domain.items.items(), feet, &mut ranges)?;
-    Ok(ranges)
+    let set = Places::of(alloc, &ranges)?;
+    Ok(set)
 }
 
 // The ranges of entries, which are read.

@@ -1,12 +1,12 @@
+// The footprint of one domain, and as many empty ones as a program has domains.
 ghost use Rattle.std.specs.Prelude.{◌≡◌, ◌<◌, ◌+◌, length, Some, IfOk};
 ghost use Rattle.cd_tree.specs.TreeModel.{IsTree};
 ghost use Rattle.cd_tree.specs.Domains.{node_of};
-ghost use Rattle.cd_tree.specs.Laws.{NestedViewFollows};
 ghost use Rattle.cd_foot.specs.Feet.{IsFoot};
-ghost use Rattle.cd_foot.specs.Gathered.{IsSide, AreFeetFrom};
+ghost use Rattle.cd_foot.specs.Gathered.{AreFeetFrom};
 
 use crate::Foot;
-use crate::gathered::{Side, gathered};
+use crate::gathered::{Side, places_of};
 use cd_base::{NoMemory, Places};
 use cd_tree::{NodeId, Tree};
 use std::alloc::Global;
@@ -26,7 +26,7 @@ pub(crate) fn no_feet(alloc: Global, count: u32) -> Result<Vec<Foot>, NoMemory>
     Ok(feet)
 }
 
-/// The footprint of a domain, by those of the domains behind it.
+/// The footprint of a domain, by those of the domains after it.
 pub(crate) fn foot_of(
     alloc: Global,
     tree: &Tree,
@@ -34,13 +34,13 @@ pub(crate) fn foot_of(
     feet: &[Foot],
 ) -> Result<Foot, NoMemory>
     requires tree { IsTree tree.now }
-    requires views { NestedViewFollows }
     requires node { node.0 < length tree.now.domains }
-    requires behind { AreFeetFrom (node.0 + 1) tree.now.domains feet.now }
+    requires after { AreFeetFrom (node.0 + 1) tree.now.domains feet.now }
     ensures { IfOk result (λ foot. (d : _) → node_of tree.now.domains node ≡ Some d → IsFoot d foot) }
 {
-    let reads = side_of(alloc, Side::Reads, tree, node, feet)?;
-    let writes = side_of(alloc, Side::Writes, tree, node, feet)?;
+    let domain = tree.node(node);
+    let reads = places_of(alloc, Side::Reads, domain, feet)?;
+    let writes = places_of(alloc, Side::Writes, domain, feet)?;
     let mut reach = reads.try_clone(alloc)?;
     reach.union(&writes)?;
     Ok(Foot {
@@ -48,24 +48,4 @@ pub(crate) fn foot_of(
         writes,
         reach,
     })
-}
-
-// One set of a domain's footprint.
-fn side_of(
-    alloc: Global,
-    side: Side,
-    tree: &Tree,
-    node: NodeId,
-    feet: &[Foot],
-) -> Result<Places, NoMemory>
-    requires tree { IsTree tree.now }
-    requires views { NestedViewFollows }
-    requires node { node.0 < length tree.now.domains }
-    requires behind { AreFeetFrom (node.0 + 1) tree.now.domains feet.now }
-    ensures { IfOk result (λ set. (d : _) → node_of tree.now.domains node ≡ Some d → IsSide side d set) }
-{
-    let domain = tree.node(node);
-    let ranges = gathered(alloc, side, domain, feet)?;
-    let set = Places::of(alloc, ranges.as_slice())?;
-    Ok(set)
 }

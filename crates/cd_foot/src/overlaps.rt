@@ -1,19 +1,20 @@
-ghost use Rattle.std.specs.Prelude.{◌≡◌, ◌<◌, ◌||◌, List, length, Some, All, MatchResult};
+// Whether two members of one group interfere, and which two do first.
+ghost use Rattle.std.specs.Prelude.{◌≡◌, ◌<◌, ◌&&◌, ◌||◌, List, length, Some, All, MatchResult};
 ghost use Rattle.cd_base.specs.Words.{PlaceSet};
 ghost use Rattle.cd_base.specs.Places.{IsLeast, stands_before};
 ghost use Rattle.cd_tree.specs.declared.domain.NodeId.{NodeId};
 ghost use Rattle.cd_tree.specs.declared.domain.Domain.{Domain};
 ghost use Rattle.cd_tree.specs.Domains.{Node, node_of, root_of, members_by, body_by};
-ghost use Rattle.cd_tree.specs.Meaning.{clash, IsDisjoint};
+ghost use Rattle.cd_tree.specs.Meaning.{node_writes, node_reach, clash, IsDisjoint};
 ghost use Rattle.cd_tree.specs.Refusals.{FirstOf, refusal_in};
 ghost use Rattle.cd_foot.specs.Feet.{AreFeet};
 ghost use Rattle.cd_foot.specs.Overlaps.{pairs_with, pairs_among, sibling_pairs, OverlapOf, FirstOverlap};
 ghost use Rattle.cd_foot.specs.Gathered.{IsItemOf};
-ghost use Rattle.cd_foot.specs.Siblings.{item_pairs};
+ghost use Rattle.cd_foot.specs.Siblings.{PairOf, item_pairs};
 
 use crate::Footprints;
 use cd_base::Place;
-use cd_tree::laws::{each_domain_answers_for_itself, the_nested_view_follows_the_list};
+use cd_tree::laws::each_domain_answers_for_itself;
 use cd_tree::{Item, NodeId, Refusal, Tree};
 
 /// Whether no two members of a group interfere, in any group of a program. It takes no memory, and time in the ranges of
@@ -27,7 +28,6 @@ pub fn disjoint(tree: &Tree, feet: &Footprints) -> Result<(), Refusal>
     ensures exactly { MatchResult result (λ _. IsDisjoint (root_of tree.now.domains)) (λ _. IsDisjoint (root_of tree.now.domains) → ⊥) }
 {
     let count = tree.count();
-    the_nested_view_follows_the_list();
     each_domain_answers_for_itself();
     for id in 0..count {
         items_apart(feet, tree.node(NodeId(id)).items.items())?;
@@ -75,11 +75,21 @@ fn apart_from(feet: &Footprints, one: NodeId, others: &[NodeId]) -> Result<(), R
     ensures { (domains : List Domain) (d : Node) → AreFeet domains feet.now → node_of domains one ≡ Some d → FirstOf OverlapOf (pairs_with d (members_by (node_of domains) others.now)) (refusal_in result) }
 {
     for other in others {
-        if let Some(place) = first_clash(feet, one, *other) {
-            return Err(Refusal::Overlap(one, *other, place));
-        }
+        pair_apart(feet, one, *other)?;
     }
     Ok(())
+}
+
+// Whether two domains interfere, as a refusal of the two.
+fn pair_apart(feet: &Footprints, one: NodeId, other: NodeId) -> Result<(), Refusal>
+    requires one { one.0 < length feet.now }
+    requires other { other.0 < length feet.now }
+    ensures { (domains : List Domain) (d e : Node) → AreFeet domains feet.now → node_of domains one ≡ Some d → node_of domains other ≡ Some e → PairOf one other d e (refusal_in result) }
+{
+    match first_clash(feet, one, other) {
+        None => Ok(()),
+        Some(place) => Err(Refusal::Overlap(one, other, place)),
+    }
 }
 
 // The least place that one of two domains writes and the other reaches.
@@ -88,9 +98,19 @@ fn first_clash(feet: &Footprints, one: NodeId, other: NodeId) -> Option<Place>
     requires other { other.0 < length feet.now }
     ensures { (domains : List Domain) (d e : Node) → AreFeet domains feet.now → node_of domains one ≡ Some d → node_of domains other ≡ Some e → IsLeast (clash d e) result }
 {
-    let written = feet.writes(one).meets(feet.reach(other));
-    let reached = feet.writes(other).meets(feet.reach(one));
-    least(written, reached)
+    least(
+        first_reached(feet, one, other),
+        first_reached(feet, other, one),
+    )
+}
+
+// The least place that the first domain writes and the second reaches.
+fn first_reached(feet: &Footprints, one: NodeId, other: NodeId) -> Option<Place>
+    requires one { one.0 < length feet.now }
+    requires other { other.0 < length feet.now }
+    ensures { (domains : List Domain) (d e : Node) → AreFeet domains feet.now → node_of domains one ≡ Some d → node_of domains other ≡ Some e → IsLeast (λ p. node_writes d p && node_reach e p) result }
+{
+    feet.writes(one).meets(feet.reach(other))
 }
 
 // The least place of two sets, by the least of each.

@@ -131,6 +131,12 @@ holds_in-counted layers at layer old g h o p e =
     (λ (q : ℕ). ap (λ (r : LayerModel). count_in r q) e ∙ counted_as old at.block q g p
     ∙ ap (λ (r : LayerModel). if at.block == q then g (count_in r q) else count_in r q) o)
 
+-- where one count has changed the same is known
+pub known_in-counted : (layers : List LayerModel) (at : KeepId) (n : ℕ) (layer old : LayerModel) → at.serial < length layers
+    → old ≡ layer_at layers at.serial → layer ≡ counted old at.block n → known_in (set layers at.serial layer) ≡ known_in layers
+known_in-counted layers at n layer old h o e =
+    known_in-set layers at.serial layer h (ap (λ (r : LayerModel). r.pieces) e ∙ ap (λ (r : LayerModel). r.pieces) o)
+
 pub holds_in-more : (layers : List LayerModel) (at : KeepId) (layer old : LayerModel) → at.serial < length layers → old ≡ layer_at layers at.serial
     → at.block < length old.holds → layer ≡ counted old at.block (count_in old at.block + 1) → holds_in (set layers at.serial layer) ≡ one_more (holds_in layers) at
 holds_in-more layers at layer old h o p e = holds_in-counted layers at layer old (λ n. n + 1) h o p e
@@ -203,20 +209,24 @@ mapped_at f g [] s block e = refl
 mapped_at f g (layer ∷ layers) zero block e = e layer block
 mapped_at f g (layer ∷ layers) (suc s) block e = mapped_at f g layers s block e
 
+-- what layers say of ids
+abbrev at_ids : {X : Type 0} → (LayerModel → ℕ → X) → List LayerModel → KeepId → X
+at_ids {X} f layers = λ id. f (layer_at layers id.serial) id.block
+
 -- layers that differ in nothing but whether more pieces may come
-pub known_in-shut : (layers new : List LayerModel) → map shut new ≡ map shut layers → known_in new ≡ known_in layers
-known_in-shut layers new e =
+shut_at : {X : Type 0} (f : LayerModel → ℕ → X) (layers new : List LayerModel) → ((layer : LayerModel) (b : ℕ) → f (shut layer) b ≡ f layer b)
+    → map shut new ≡ map shut layers → at_ids f new ≡ at_ids f layers
+shut_at f layers new same e =
     fun_ext λ (id : KeepId).
-    sym (mapped_at piece_in shut new id.serial id.block (λ layer b. refl))
-    ∙ ap (λ (rs : List LayerModel). piece_in (layer_at rs id.serial) id.block) e
-    ∙ mapped_at piece_in shut layers id.serial id.block (λ layer b. refl)
+    sym (mapped_at f shut new id.serial id.block same)
+    ∙ ap (λ (rs : List LayerModel). f (layer_at rs id.serial) id.block) e
+    ∙ mapped_at f shut layers id.serial id.block same
+
+pub known_in-shut : (layers new : List LayerModel) → map shut new ≡ map shut layers → known_in new ≡ known_in layers
+known_in-shut layers new e = shut_at piece_in layers new (λ layer b. refl) e
 
 pub holds_in-shut : (layers new : List LayerModel) → map shut new ≡ map shut layers → holds_in new ≡ holds_in layers
-holds_in-shut layers new e =
-    fun_ext λ (id : KeepId).
-    sym (mapped_at count_in shut new id.serial id.block (λ layer b. refl))
-    ∙ ap (λ (rs : List LayerModel). count_in (layer_at rs id.serial) id.block) e
-    ∙ mapped_at count_in shut layers id.serial id.block (λ layer b. refl)
+holds_in-shut layers new e = shut_at count_in layers new (λ layer b. refl) e
 
 held_shut : (layers : List LayerModel) → held_in (map shut layers) ≡ held_in layers
 held_shut layers = grind (arith, common_steps)

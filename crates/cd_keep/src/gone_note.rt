@@ -1,3 +1,4 @@
+// The note of a gone answer.
 ghost use Rattle.std.specs.Prelude.{◌≡◌, ◌≢◌, MatchOption};
 
 use std::marker::Model;

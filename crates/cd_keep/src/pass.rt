@@ -1,3 +1,4 @@
+// The trait of passes: what each call does to one.
 ghost use Rattle.std.specs.Prelude.{◌≡◌, ◌+◌, ◌^◌, ◌<◌, ◌≤◌, None, Some, IsSome, length, slice_get, IfOk, OnOk, OnErr, MatchResult};
 ghost use Rattle.cd_keep.specs.PassModel.{PassModel, IsPiece, AreShort, CanJoin, words_of, kept, shared, lapsed, gave_up, child_of, without, joined};
 

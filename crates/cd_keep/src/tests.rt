@@ -1,24 +1,33 @@
-ghost use Rattle.std.specs.Prelude.{◌≡◌, ◌+◌, ◌*◌, ◌≤◌, IfOk, OnOk};
-ghost use Rattle.cd_keep.specs.PassModel.{PassModel, HoldsNothing, opened, child_of, without, joined};
+// Each call of a pass, on the pass over shared pointers.
+ghost use Rattle.std.specs.Prelude.{◌≡◌, ◌+◌, ◌*◌, ◌<◌, ◌≤◌, ◌∷◌, [], IfOk, OnOk};
+ghost use Rattle.cd_keep.specs.PassModel.{PassModel, HoldsNothing, opened, kept, child_of, without, joined};
 
 use crate::{ArcPass, GoneNote, KeepId, Pass};
 use cd_base::NoMemory;
-use std::process::Abort;
 use std::sync::Wait;
 use std::test::Fail;
 
+// A word is as it should be.
+fn expect(found: u64, wanted: u64) -> Result<(), Fail> {
+    if found == wanted {
+        Ok(())
+    } else {
+        Err(Fail::new(format_args!("{found} in place of {wanted}")))
+    }
+}
+
 // Words that one pass kept and gave up are shared by another that was split off before, and which keeps words of its own.
-fn shares_what_was_given_up<R: Abort + Wait, P: Pass>(rt: &R, pass: &mut P) -> Result<(), Fail>
+fn shares_what_was_given_up<R: Wait, P: Pass>(rt: &R, pass: &mut P) -> Result<(), Fail>
     requires { P.model pass.old ≡ opened 0 3 }
 {
     let id = pass.keep(rt, [1, 2].as_slice())?;
     let mut child = pass.split(2)?;
     pass.give_up(id);
     child.share(id).ok().ok_or("gone")?;
-    assert_eq!(rt; child.word(id, 0), 1);
-    assert_eq!(rt; child.word(id, 1), 2);
+    expect(child.word(id, 0), 1)?;
+    expect(child.word(id, 1), 2)?;
     let own = child.keep(rt, [5].as_slice())?;
-    assert_eq!(rt; child.word(own, 0), 5);
+    expect(child.word(own, 0), 5)?;
     child.give_up(own);
     child.give_up(id);
     pass.join(child);
@@ -26,10 +35,7 @@ fn shares_what_was_given_up<R: Abort + Wait, P: Pass>(rt: &R, pass: &mut P) -> R
 }
 
 // All room is taken by holds of one id, and comes back with each that is given up.
-fn holds_one_id_to_the_end_of_its_room<R: Abort + Wait, P: Pass>(
-    rt: &R,
-    pass: &mut P,
-) -> Result<(), Fail>
+fn holds_one_id_to_the_end_of_its_room<R: Wait, P: Pass>(rt: &R, pass: &mut P) -> Result<(), Fail>
     requires { P.model pass.old ≡ opened 0 2 }
 {
     let id = pass.keep(rt, [7; 64].as_slice())?;
@@ -37,13 +43,15 @@ fn holds_one_id_to_the_end_of_its_room<R: Abort + Wait, P: Pass>(
     pass.share(id).ok().ok_or("gone")?;
     pass.join(none);
     pass.give_up(id);
-    assert_eq!(rt; pass.word(id, 63), 7);
+    expect(pass.word(id, 63), 7)?;
     pass.give_up(id);
     let next = pass.keep(rt, [8].as_slice())?;
-    assert_ne!(rt; next, id);
-    assert_eq!(rt; pass.word(next, 0), 8);
+    if next == id {
+        return Err(Fail::new("one id for two keeps"));
+    }
+    expect(pass.word(next, 0), 8)?;
     pass.share(id).ok().ok_or("gone")?;
-    assert_eq!(rt; pass.word(id, 0), 7);
+    expect(pass.word(id, 0), 7)?;
     Ok(())
 }
 
@@ -65,8 +73,8 @@ fn words_stay_for_those_that_have_seen_them(rt: HostRuntime) -> Result<(), Fail>
     let mut child = pass.split(1)?;
     pass.give_up(id);
     child.share(id).unwrap();
-    assert_eq!(rt; child.word(id, 0), 1);
-    assert_eq!(rt; child.word(id, 1), 2);
+    expect(child.word(id, 0), 1)?;
+    expect(child.word(id, 1), 2)?;
     Ok(())
 }
 
@@ -136,41 +144,45 @@ impl<P: Pass> Threefold<P> {
 fn a_third_of_the_room_is_split_off_and_taken_back(rt: HostRuntime) -> Result<(), Fail> {
     let mut pass = Threefold::over(ArcPass::open(rt.alloc(), 9)?, 3);
     let child = pass.split(2)?;
-    assert_eq!(rt; pass.room, 1);
+    expect(u64::from(pass.room), 1)?;
     pass.join(child);
-    assert_eq!(rt; pass.room, 3);
+    expect(u64::from(pass.room), 3)?;
     splits_and_takes_back(&mut pass.below, 9)?;
     Ok(())
+}
+
+// Keeps one word, and reads it.
+fn kept_word<R: Wait, P: Pass>(rt: &R, pass: &mut P, word: u64) -> Result<(KeepId, u64), Fail>
+    requires { 0 < (P.model pass.old).room }
+    ensures { IfOk result (λ own. P.model pass.new ≡ kept (P.model pass.old) own.0 (word ∷ [])) }
+{
+    let id = pass.keep(rt, [word].as_slice())?;
+    let read = pass.word(id, 0);
+    Ok((id, read))
 }
 
 // Relatives keep under one id: a pass, one that was split off from it, and one that was split off from that.
 fn relatives<R: Wait, P: Pass>(rt: &R, pass: &mut P) -> Result<[(KeepId, u64); 3], Fail>
     requires { P.model pass.old ≡ opened 0 4 }
 {
-    let first = pass.keep(rt, [1].as_slice())?;
+    let (first, _) = kept_word(rt, pass, 1)?;
     let mut child = pass.split(2)?;
     let mut grandchild = child.split(1)?;
-    let id = pass.keep(rt, [2].as_slice())?;
-    let word = pass.word(id, 0);
-    let of_child = child.keep(rt, [3].as_slice())?;
-    let word_of_child = child.word(of_child, 0);
-    let of_grandchild = grandchild.keep(rt, [4].as_slice())?;
-    let word_of_grandchild = grandchild.word(of_grandchild, 0);
+    let own = kept_word(rt, pass, 2)?;
+    let of_child = kept_word(rt, &mut child, 3)?;
+    let of_grandchild = kept_word(rt, &mut grandchild, 4)?;
     pass.give_up(first);
-    Ok([
-        (id, word),
-        (of_child, word_of_child),
-        (of_grandchild, word_of_grandchild),
-    ])
+    Ok([own, of_child, of_grandchild])
 }
 
 #[test]
 fn relatives_keep_different_words_under_one_id(rt: HostRuntime) -> Result<(), Fail> {
     let mut pass = ArcPass::open(rt.alloc(), 4)?;
     let [first, second, third] = relatives(&rt, &mut pass)?;
-    assert_eq!(rt; [first.1, second.1, third.1], [2, 3, 4]);
-    assert_eq!(rt; first.0, second.0);
-    assert_eq!(rt; first.0, third.0);
+    let words = [first.1, second.1, third.1];
+    if words != [2, 3, 4] || first.0 != second.0 || first.0 != third.0 {
+        return Err(Fail::new(format_args!("{words:?} under ids that differ")));
+    }
     Ok(())
 }
 
@@ -181,15 +193,19 @@ fn words_are_fetched_at_once(rt: HostRuntime) -> Result<(), Fail> {
     let id = pass.keep_at_once([1, 2, 3].as_slice())?;
     let mut words = [0; 3];
     pass.fetch(id, words.as_mut_slice());
-    assert_eq!(rt; words, [1, 2, 3]);
+    if words != [1, 2, 3] {
+        return Err(Fail::new("other words"));
+    }
     Ok(())
 }
 
 #[test]
 fn a_note_is_of_two_serials(rt: HostRuntime) -> Result<(), Fail> {
     let note = GoneNote::of(1, 2).ok_or("no note")?;
-    assert_eq!(rt; note.seen(), 1);
-    assert_eq!(rt; note.found(), 2);
-    assert_eq!(rt; GoneNote::of(3, 3), None);
+    expect(note.seen(), 1)?;
+    expect(note.found(), 2)?;
+    if GoneNote::of(3, 3).is_some() {
+        return Err(Fail::new("a note of one serial"));
+    }
     Ok(())
 }

@@ -9,7 +9,8 @@ use Rattle.cd_tree.specs.declared.document.Region.{Region}
 use Rattle.cd_tree.specs.Meaning.{initial}
 use Rattle.cd_field.specs.FieldModel.{FieldModel, ArePresent, loaded}
 use Rattle.cd_kernel.specs.Board.{board, HasBoard, IsOnBoard}
-use Rattle.cd_kernel.proofs.Places.{Inside, inside_from, inside_to, by_test}
+use Rattle.cd_base.proofs.PlaceLemmas.{Inside, inside_from, inside_to}
+use Rattle.cd_base.proofs.BoolLemmas.{by_test}
 
 -- a place of a range on the board is on the board
 in_board : (r : Range) (p : Place) → IsOnBoard r → in_range r p ≡ true → in_range board p ≡ true

@@ -8,8 +8,9 @@ use Rattle.cd_tree.specs.declared.operation.Op.TheVariants.{Fill, Copy, Add, Sub
 use Rattle.cd_tree.specs.Operations.{column, op_writes, length_of, nth_word, FitsShape, IsInStep, AreApart}
 use Rattle.cd_tree.specs.Locality.{SameSources, ColumnIsLocal}
 use Rattle.cd_kernel.specs.Computing.{nth_place, IsDirect}
-use Rattle.cd_kernel.proofs.Places.{Inside, inside_from, inside_to, not_true}
-use Rattle.cd_kernel.proofs.Written.{words_to, first_of, still_there, other}
+use Rattle.cd_base.proofs.PlaceLemmas.{Inside, inside_from, inside_to}
+use Rattle.std.proofs.lemmas.Bool.{cond-false, false_from_ne_true}
+use Rattle.cd_kernel.proofs.Written.{words_to, first_of, still_there}
 
 -- a source word that is still to be read
 pub step_there : (op : Op) (w : Words) (x : Range) (n i : ℕ) → IsInStep (op_writes op) x → n ≤ i → i < length_of (op_writes op)
@@ -23,7 +24,7 @@ pub apart_there : (op : Op) (w : Words) (x : Range) (n i : ℕ) → AreApart (op
 apart_there op w x n i apart short inside =
     let d : Range = op_writes op in
     let p : Place = nth_place x i in
-    ap (λ (o : Option ℕ). unwrap_or o 0) (other (in_range (first_of d n) p) _ _ (not_true _ (λ t.
+    ap (λ (o : Option ℕ). unwrap_or o 0) (cond-false (in_range (first_of d n) p) _ _ (false_from_ne_true _ (λ t.
     let h : Inside (first_of d n) p = inside_from _ _ t in
     let high : x.low + i < d.low + n = h.high in
     let low : d.low ≤ x.low + i = h.low in

@@ -1,10 +1,14 @@
 -- Sums and greatest words taken one by one, and sums in which most terms are nothing.
-use Rattle.std.proofs.Common.{◌≡◌, ℕ, zero, suc, ◌+◌, ◌^◌, ◌<◌, ◌≤◌, max, arith, ap, sym, ◌∙◌, add-one, inl, inr}
+use Rattle.std.proofs.Common.{◌≡◌, ℕ, zero, suc, ◌+◌, ◌*◌, ◌^◌, ◌<◌, ◌≤◌, max, arith, refl, ap, sym, ◌∙◌, add-one, inl, inr}
 use Rattle.std.proofs.Math.Nat.{add-mod-mod, mod-add-mod}
 use Rattle.std.proofs.lemmas.Bool.{cases_lt}
-use Rattle.cd_base.specs.Words.{word_of}
-use Rattle.cd_tree.specs.Operations.{total, greatest}
+use Rattle.cd_base.specs.declared.place.Range.{Range}
+use Rattle.cd_base.specs.Words.{Words, word_of}
+use Rattle.cd_tree.specs.Operations.{total, greatest, nth_word}
 use Rattle.cd_tree.proofs.SameColumns.{total-same, greatest-same}
+use Rattle.cd_kernel.specs.declared.totals.Gathering.{Gathering}
+use Rattle.cd_kernel.specs.declared.totals.Gathering.TheVariants.{Adding, Multiplying, Comparing}
+use Rattle.cd_kernel.specs.Computing.{gathered, gathered_on}
 
 -- terms that are nothing add nothing
 pub total-flat : (f : ℕ → ℕ) (a b : ℕ) → a ≤ b → ((j : ℕ) → a ≤ j → j < b → f j ≡ 0) → total f b ≡ total f a
@@ -64,7 +68,7 @@ greatest_parted f g a (suc n) same =
     ∙ (let all : max (greatest f (a + n)) (f (a + n)) ≡ max (greatest f a) (max (greatest g n) (g n)) = omega arith in all)
 
 -- a block of words more is compared
-pub block_compared : (f g : ℕ → ℕ) (a n m most later : ℕ) → most ≡ greatest f a → ((j : ℕ) → j < n → g j ≡ f (a + j))
+block_compared : (f g : ℕ → ℕ) (a n m most later : ℕ) → most ≡ greatest f a → ((j : ℕ) → j < n → g j ≡ f (a + j))
     → later ≡ max most (greatest g m) → m ≡ n → later ≡ greatest f (a + n)
 block_compared f g a n m most later before same after long =
     after ∙ ap (λ (k : ℕ). max most (greatest g k)) long ∙ ap (λ (v : ℕ). max v (greatest g n)) before ∙ sym (greatest_parted f g a n same)
@@ -79,3 +83,19 @@ pub greatest_read : (most later n m : ℕ) (f g : ℕ → ℕ) → ((j : ℕ) �
     → later ≡ max most (greatest g m)
 greatest_read most later n m f g same is long =
     is ∙ ap (λ (v : ℕ). max most v) (greatest-same f g n same ∙ ap (greatest g) long)
+
+-- what is made of words a block at a time
+pub none_gathered : (gathering : Gathering) (w : Words) (x : Range) → 0 ≡ gathered gathering w x 0
+none_gathered Adding w x = refl
+none_gathered (Multiplying z) w x = refl
+none_gathered Comparing w x = refl
+
+pub block_gathered : (gathering : Gathering) (w : Words) (x : Range) (a n m before later : ℕ) → before ≡ gathered gathering w x a
+    → later ≡ gathered_on gathering w x a before m → m ≡ n → later ≡ gathered gathering w x (a + n)
+block_gathered Adding w x a n m before later is after long =
+    block_summed (nth_word w x) (λ j. nth_word w x (a + j)) a n m before later is (λ j short. refl) after long
+block_gathered (Multiplying z) w x a n m before later is after long =
+    block_summed (λ j. nth_word w x j * nth_word w z j) (λ j. nth_word w x (a + j) * nth_word w z (a + j)) a n m before later is
+    (λ j short. refl) after long
+block_gathered Comparing w x a n m before later is after long =
+    block_compared (nth_word w x) (λ j. nth_word w x (a + j)) a n m before later is (λ j short. refl) after long

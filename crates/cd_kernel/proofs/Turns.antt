@@ -2,7 +2,7 @@
 use Rattle.std.proofs.Common.{◌≡◌, ℕ, ◌+◌, ◌-◌, ◌<◌, ◌≤◌, suc, Bool, true, cond, List, [], ◌∷◌, All, get_or, length, take, Option, Some, IsSome, refl, ap, subst, sym, ◌∙◌, arith, inl, inr}
 use Rattle.std.proofs.Math.Path.{fun_ext}
 use Rattle.std.proofs.lemmas.List.{length-take, get_or-take}
-use Rattle.std.proofs.lemmas.Bool.{cases_lt}
+use Rattle.std.proofs.lemmas.Bool.{cases_lt, cond-true, cond-false, or_left, or_right}
 use Rattle.std.proofs.lemmas.List.Elements.{All-nil, All-cons}
 use Rattle.cd_base.specs.declared.place.Place.{Place}
 use Rattle.cd_base.specs.declared.place.Range.{Range}
@@ -13,9 +13,10 @@ use Rattle.cd_tree.specs.Operations.{column, op_writes, length_of, nth_word, tot
 use Rattle.cd_tree.specs.Locality.{ColumnIsLocal}
 use Rattle.cd_field.specs.FieldModel.{FieldModel, IsPresent, ArePresent, laid, wrote_run}
 use Rattle.cd_kernel.specs.Computing.{run_of, IsHere, IsDirect}
-use Rattle.cd_kernel.proofs.Places.{Inside, inside_from, inside_to, by_test, same_test, or_left, or_right}
+use Rattle.cd_base.proofs.PlaceLemmas.{Inside, inside_from, inside_to}
+use Rattle.cd_base.proofs.BoolLemmas.{by_test, same_test}
 use Rattle.cd_kernel.proofs.Sums.{block_summed}
-use Rattle.cd_kernel.proofs.Written.{words_to, first_of, chosen, other}
+use Rattle.cd_kernel.proofs.Written.{words_to, first_of}
 use Rattle.cd_kernel.proofs.Steady.{step_there, column_stays}
 
 -- writing keeps places present
@@ -26,9 +27,9 @@ still_present m was op n p e h =
     let Q : Option ℕ → Type 0 = λ o. IsSome o in
     subst P (sym e)
     (by_test (in_range (first_of (op_writes op) n) p)
-    (λ t. let w : words_to op was.words n p ≡ Some (column op was.words (p.index - (op_writes op).low)) = chosen _ _ _ t in
+    (λ t. let w : words_to op was.words n p ≡ Some (column op was.words (p.index - (op_writes op).low)) = cond-true _ _ _ t in
     record { known = subst Q (sym w) refl; here = h.here })
-    (λ f. let w : words_to op was.words n p ≡ was.words p = other _ _ _ f in
+    (λ f. let w : words_to op was.words n p ≡ was.words p = cond-false _ _ _ f in
     record { known = subst Q (sym w) h.known; here = h.here }))
 
 -- the places of ranges, one range at a time
@@ -57,10 +58,10 @@ laid_on op w at n words each q =
     let inside : in_range (first_of d (at + n)) q ≡ true =
     inside_to (first_of d (at + n)) q (record { region = h.region; low = omega arith; high = omega arith }) in
     let index : at + (q.index - (d.low + at)) ≡ q.index - d.low = omega arith in
-    chosen (in_range run q) (Some (get_or words (q.index - run.low) 0)) (words_to op w at q) t
+    cond-true (in_range run q) (Some (get_or words (q.index - run.low) 0)) (words_to op w at q) t
     ∙ ap (λ (v : ℕ). Some v) (each (q.index - (d.low + at)) (omega arith))
     ∙ ap (λ (i : ℕ). Some (column op w i)) index
-    ∙ sym (chosen (in_range (first_of d (at + n)) q) (Some (column op w (q.index - d.low))) (w q) inside))
+    ∙ sym (cond-true (in_range (first_of d (at + n)) q) (Some (column op w (q.index - d.low))) (w q) inside))
     (λ f. let tests : in_range (first_of d at) q ≡ in_range (first_of d (at + n)) q =
     same_test _ _
     (λ t. let h : Inside (first_of d at) q = inside_from (first_of d at) q t in
@@ -75,7 +76,7 @@ laid_on op w at n words each q =
           let in_run : in_range run q ≡ true = inside_to run q (record { region = h.region; low = l; high = omega arith }) in
           absurd (cc)
     ]) in
-    other (in_range run q) (Some (get_or words (q.index - run.low) 0)) (words_to op w at q) f
+    cond-false (in_range run q) (Some (get_or words (q.index - run.low) 0)) (words_to op w at q) f
     ∙ ap (λ (b : Bool). cond b (Some (column op w (q.index - d.low))) (w q)) tests)
 
 -- a block more is written

@@ -7,7 +7,8 @@ use Rattle.cd_base.specs.Words.{Words, in_range, same_place, put}
 use Rattle.cd_tree.specs.declared.operation.Op.{Op}
 use Rattle.cd_tree.specs.Operations.{column, op_meaning, op_writes, length_of, IsFull, IsInStep}
 use Rattle.cd_kernel.specs.Computing.{nth_place}
-use Rattle.cd_kernel.proofs.Places.{Inside, inside_from, inside_to, same_from, same_to, by_test, not_true, same_test}
+use Rattle.cd_base.proofs.PlaceLemmas.{Inside, inside_from, inside_to}
+use Rattle.std.proofs.lemmas.Bool.{cond-false, false_from_ne_true}
 
 -- the first n places of a range
 abbrev pub first_of : Range → ℕ → Range
@@ -17,17 +18,10 @@ first_of r n = record { region = r.region; low = r.low; high = r.low + n }
 abbrev pub words_to : Op → Words → ℕ → Words
 words_to op w n = λ p. if in_range (first_of (op_writes op) n) p then Some (column op w (p.index - (op_writes op).low)) else w p
 
--- where a test is known, the choice is made
-pub chosen : {A : Type 0} (b : Bool) (x y : A) → b ≡ true → cond b x y ≡ x
-chosen {A} b x y e = rw e refl
-
-pub other : {A : Type 0} (b : Bool) (x y : A) → b ≡ false → cond b x y ≡ y
-other {A} b x y e = rw e refl
-
 pub none_written : (op : Op) (w : Words) → words_to op w 0 ≡ w
 none_written op w = fun_ext (λ p.
-    other (in_range (first_of (op_writes op) 0) p) _ _
-    (not_true _ (λ t. let h : Inside (first_of (op_writes op) 0) p = inside_from _ _ t in
+    cond-false (in_range (first_of (op_writes op) 0) p) _ _
+    (false_from_ne_true _ (λ t. let h : Inside (first_of (op_writes op) 0) p = inside_from _ _ t in
     let low : (op_writes op).low ≤ p.index = h.low in let high : p.index < (op_writes op).low + 0 = h.high in omega arith)))
 
 -- with all words written, the operation is done
@@ -43,7 +37,7 @@ pub still_there : (op : Op) (w : Words) (x : Range) (n i : ℕ) → IsInStep (op
 still_there op w x n i step ahead short =
     let d : Range = op_writes op in
     let p : Place = nth_place x i in
-    other (in_range (first_of d n) p) _ _ (not_true _ (λ t.
+    cond-false (in_range (first_of d n) p) _ _ (false_from_ne_true _ (λ t.
     let h : Inside (first_of d n) p = inside_from _ _ t in
     let high : x.low + i < d.low + n = h.high in
     let low : d.low ≤ x.low + i = h.low in

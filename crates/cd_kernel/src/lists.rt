@@ -2,16 +2,50 @@
 ghost use Rattle.std.specs.Prelude.{◌≡◌, ℕ, ◌+◌, ◌*◌, ◌<◌, length, max, slice_index};
 ghost use Rattle.cd_base.specs.Words.{word_of};
 ghost use Rattle.cd_tree.specs.Operations.{greatest, total};
+ghost use Rattle.cd_kernel.specs.Computing.{paired};
 
-/// Each word becomes what the function gives for the words of two other lists at its index.
+/// What is made of two words: their sum, their difference, their product, or the first and a multiple of the second.
+#[derive(Debug, Clone, Copy)]
+pub(crate) enum Pairing {
+    Plus,
+    Minus,
+    Times,
+    Multiple(u64),
+}
+
+/// Each word becomes what is made of the words of two other lists at its index. There is a loop for each pairing, so that
+/// none asks at each word which it is.
+pub(crate) fn pair(pairing: Pairing, words: &mut [u64], xs: &[u64], zs: &[u64])
+    requires { (length words.old ≡ length xs.now) × (length words.old ≡ length zs.now) }
+    ensures { (j : ℕ) → j < length words.new → slice_index words.new j ≡ paired pairing (slice_index xs.now j) (slice_index zs.now j) }
+{
+    match pairing {
+        Pairing::Plus => pair_each(Pairing::Plus, words, xs, zs),
+        Pairing::Minus => pair_each(Pairing::Minus, words, xs, zs),
+        Pairing::Times => pair_each(Pairing::Times, words, xs, zs),
+        Pairing::Multiple(factor) => pair_each(Pairing::Multiple(factor), words, xs, zs),
+    }
+}
+
 #[inline(always)]
-pub(crate) fn join<G: Fn(u64, u64) -> u64>(words: &mut [u64], xs: &[u64], zs: &[u64], give: G)
-    requires same { (length words.old ≡ length xs.now) × (length words.old ≡ length zs.now) }
-    requires call { G.IsAlwaysCallable give }
-    ensures { (j : ℕ) → j < length words.new → G.post give (slice_index xs.now j) (slice_index zs.now j) (slice_index words.new j) }
+fn pair_each(pairing: Pairing, words: &mut [u64], xs: &[u64], zs: &[u64])
+    requires { (length words.old ≡ length xs.now) × (length words.old ≡ length zs.now) }
+    ensures { (j : ℕ) → j < length words.new → slice_index words.new j ≡ paired pairing (slice_index xs.now j) (slice_index zs.now j) }
 {
     for i in 0..words.len() {
-        words[i] = give(xs[i], zs[i]);
+        words[i] = made_of(pairing, xs[i], zs[i]);
+    }
+}
+
+#[inline(always)]
+fn made_of(pairing: Pairing, a: u64, b: u64) -> u64
+    ensures { result ≡ paired pairing a b }
+{
+    match pairing {
+        Pairing::Plus => a.wrapping_add(b),
+        Pairing::Minus => a.wrapping_sub(b),
+        Pairing::Times => a.wrapping_mul(b),
+        Pairing::Multiple(factor) => a.wrapping_add(factor.wrapping_mul(b)),
     }
 }
 

@@ -1,3 +1,4 @@
+// The operations on a machine: which way each is run, and the loops over blocks of its destination.
 ghost use Rattle.std.specs.Prelude.{◌≡◌, ℕ, ◌+◌, ◌<◌, ◌≤◌, length, slice_index, ◌∷◌, [], All};
 ghost use Rattle.cd_base.specs.Words.{word_of};
 ghost use Rattle.cd_tree.specs.Operations.{column, length_of, nth_word, op_reads, op_writes, total, FitsShape, IsFull, IsInStep};

@@ -1,7 +1,9 @@
+// The twelve operations on a board of 64 words, on the plain machine and on the shipped one.
 ghost use Rattle.std.specs.Prelude.{◌≡◌, ◌+◌, ◌<◌, ◌≤◌, ◌∷◌, [], true, All, IfOk, OnOk, IsSome, IsTrue};
 ghost use Rattle.cd_base.specs.Words.{in_range};
 ghost use Rattle.cd_tree.specs.Meaning.{initial};
 ghost use Rattle.cd_tree.specs.Operations.{op_reads, op_writes, length_of, FitsShape, IsFull, IsInStep, AreApart};
+ghost use Rattle.cd_field.specs.FieldModel.{IsPresent};
 ghost use Rattle.cd_kernel.specs.Board.{board, HasBoard, IsOnBoard};
 
 use crate::apply;
@@ -9,7 +11,6 @@ use cd_base::{Items, Pattern, Place, Range, Text};
 use cd_field::{Field, MapField, ScriptField};
 use cd_tree::{Op, Region, Regions, writes};
 use std::alloc::Global;
-use std::process::Abort;
 use std::test::Fail;
 
 const COUNT: u32 = 64;
@@ -45,31 +46,45 @@ fn load_board<F: Field>(alloc: Global, field: &mut F) -> Result<(), Fail>
 }
 
 // Words from an index on, in place of those that stand there.
-fn put<F: Field>(rt: &impl Abort, field: &mut F, low: u32, words: &[u64])
+fn put<F: Field>(field: &mut F, low: u32, words: &[u64]) -> Result<(), Fail>
     requires { HasBoard (F.model field.old) }
-    ensures { HasBoard (F.model field.new) }
+    ensures { OnOk result (HasBoard (F.model field.new)) }
 {
     let mut index = low;
     for word in words {
-        assert!(rt; index < COUNT);
+        if index >= COUNT {
+            return Err(Fail::new("more words than the board has"));
+        }
         field.write(Place { region: 0, index }, *word);
         index += 1;
     }
+    Ok(())
 }
 
 // The words from an index on are these.
-fn expect_words<F: Field>(rt: &impl Abort, field: &F, low: u32, words: &[u64])
+fn expect_words<F: Field>(field: &F, low: u32, words: &[u64]) -> Result<(), Fail>
     requires { HasBoard (F.model field.now) }
 {
     let mut index = low;
-    for word in words {
-        assert!(rt; index < COUNT);
-        assert_eq!(rt;
-            field.read(Place { region: 0, index }),
-            *word,
-            "word {index}"
-        );
+    for wanted in words {
+        if index >= COUNT {
+            return Err(Fail::new("more words than the board has"));
+        }
+        expect_word(field, Place { region: 0, index }, *wanted)?;
         index += 1;
+    }
+    Ok(())
+}
+
+fn expect_word<F: Field>(field: &F, place: Place, wanted: u64) -> Result<(), Fail>
+    requires { IsPresent (F.model field.now) place }
+{
+    let word = field.read(place);
+    if word == wanted {
+        Ok(())
+    } else {
+        let index = place.index;
+        Err(Fail::new(format_args!("word {index} is {word} in place of {wanted}")))
     }
 }
 
@@ -149,42 +164,36 @@ fn fits(op: &Op) -> bool
 }
 
 // Runs an operation that fits.
-fn run<F: Field>(rt: &impl Abort, field: &mut F, op: Op)
+fn run<F: Field>(field: &mut F, op: Op) -> Result<(), Fail>
     requires { HasBoard (F.model field.old) }
-    ensures { HasBoard (F.model field.new) }
+    ensures { OnOk result (HasBoard (F.model field.new)) }
 {
-    assert!(rt; fits(&op));
+    if !fits(&op) {
+        return Err(Fail::new("the operation does not fit"));
+    }
     apply(&op, field);
-}
-
-fn each_operation_in_a_row<F: Field>(
-    rt: &impl Abort,
-    alloc: Global,
-    field: &mut F,
-) -> Result<(), Fail> {
-    load_board(alloc, field)?;
-    let (x, a, b, c) = (part(0, 4), part(4, 8), part(8, 12), part(12, 14));
-    put(rt, field, 0, &[1, 2, 3, 4, 1, 1, 1, 1]);
-    run(rt, field, Op::Axpy(a, 3, x));
-    run(rt, field, Op::Scan(b, x));
-    run(rt, field, Op::Stencil(c, 1, 2, 1, x));
-    run(rt, field, Op::Sum(part(14, 15), x));
-    run(rt, field, Op::Dot(part(15, 16), x, x));
-    run(rt, field, Op::Max(part(16, 17), b));
-    expect_words(
-        rt,
-        field,
-        0,
-        &[1, 2, 3, 4, 4, 7, 10, 13, 1, 3, 6, 10, 8, 12, 10, 30, 10],
-    );
     Ok(())
 }
 
-fn words_wrap_and_rows_end<F: Field>(
-    rt: &impl Abort,
-    alloc: Global,
-    field: &mut F,
-) -> Result<(), Fail> {
+fn each_operation_in_a_row<F: Field>(alloc: Global, field: &mut F) -> Result<(), Fail> {
+    load_board(alloc, field)?;
+    let (x, a, b, c) = (part(0, 4), part(4, 8), part(8, 12), part(12, 14));
+    put(field, 0, &[1, 2, 3, 4, 1, 1, 1, 1])?;
+    run(field, Op::Axpy(a, 3, x))?;
+    run(field, Op::Scan(b, x))?;
+    run(field, Op::Stencil(c, 1, 2, 1, x))?;
+    run(field, Op::Sum(part(14, 15), x))?;
+    run(field, Op::Dot(part(15, 16), x, x))?;
+    run(field, Op::Max(part(16, 17), b))?;
+    expect_words(
+        field,
+        0,
+        &[1, 2, 3, 4, 4, 7, 10, 13, 1, 3, 6, 10, 8, 12, 10, 30, 10],
+    )?;
+    Ok(())
+}
+
+fn words_wrap_and_rows_end<F: Field>(alloc: Global, field: &mut F) -> Result<(), Fail> {
     load_board(alloc, field)?;
     let (starts, cols, vals, x, y) = (
         part(4, 7),
@@ -194,20 +203,18 @@ fn words_wrap_and_rows_end<F: Field>(
         part(16, 18),
     );
     put(
-        rt,
         field,
         0,
         &[
             LARGEST, LARGEST, 0, 0, 0, 0, 0, 0, 2, 4, 5, 5, 5, 1, 2, 3, 9, 9,
         ],
-    );
-    run(rt, field, Op::Sum(part(2, 3), part(0, 2)));
-    run(rt, field, Op::Sub(part(3, 4), part(13, 14), part(14, 15)));
-    run(rt, field, Op::Fill(part(4, 5), 2));
-    run(rt, field, Op::Fill(part(6, 7), 9));
-    run(rt, field, Op::Spmv(y, starts, cols, vals, x));
+    )?;
+    run(field, Op::Sum(part(2, 3), part(0, 2)))?;
+    run(field, Op::Sub(part(3, 4), part(13, 14), part(14, 15)))?;
+    run(field, Op::Fill(part(4, 5), 2))?;
+    run(field, Op::Fill(part(6, 7), 9))?;
+    run(field, Op::Spmv(y, starts, cols, vals, x))?;
     expect_words(
-        rt,
         field,
         2,
         &[
@@ -228,13 +235,12 @@ fn words_wrap_and_rows_end<F: Field>(
             0,
             20,
         ],
-    );
+    )?;
     Ok(())
 }
 
 // The words from an index on after an operation on x = 1 2 3 4, z = 5 6 7 8 and four words 9.
 fn gives<F: Field>(
-    rt: &impl Abort,
     alloc: Global,
     field: &mut F,
     op: Op,
@@ -242,14 +248,14 @@ fn gives<F: Field>(
     wanted: [u64; 4],
 ) -> Result<(), Fail> {
     load_board(alloc, field)?;
-    put(rt, field, 0, &[1, 2, 3, 4, 5, 6, 7, 8, 9, 9, 9, 9]);
-    run(rt, field, op);
-    expect_words(rt, field, low, &wanted);
+    put(field, 0, &[1, 2, 3, 4, 5, 6, 7, 8, 9, 9, 9, 9])?;
+    run(field, op)?;
+    expect_words(field, low, &wanted)?;
     Ok(())
 }
 
 // Each operation, apart from its sources and in place.
-fn apart_and_in_place<F: Field>(rt: &impl Abort, alloc: Global, field: &mut F) -> Result<(), Fail> {
+fn apart_and_in_place<F: Field>(alloc: Global, field: &mut F) -> Result<(), Fail> {
     let (x, z, d, one) = (part(0, 4), part(4, 8), part(8, 12), part(8, 9));
     let minus_four = LARGEST - 3;
     let cases = [
@@ -276,18 +282,14 @@ fn apart_and_in_place<F: Field>(rt: &impl Abort, alloc: Global, field: &mut F) -
         (Op::Scan(x, x), 0, [1, 3, 6, 10]),
     ];
     for (op, low, wanted) in cases {
-        gives(rt, alloc, field, op, low, wanted)?;
+        gives(alloc, field, op, low, wanted)?;
     }
     Ok(())
 }
 
 // A sparse product over two rows, three positions and three columns: starts, columns, values, and the words given.
 // The vector is 1 2 3.
-fn rows_of_a_sparse_product<F: Field>(
-    rt: &impl Abort,
-    alloc: Global,
-    field: &mut F,
-) -> Result<(), Fail> {
+fn rows_of_a_sparse_product<F: Field>(alloc: Global, field: &mut F) -> Result<(), Fail> {
     let four_gibi = 1u64 << 32;
     let half = 1u64 << 63;
     let cases = [
@@ -307,12 +309,11 @@ fn rows_of_a_sparse_product<F: Field>(
     ];
     for (starts, cols, vals, wanted) in cases {
         load_board(alloc, field)?;
-        put(rt, field, 0, &starts);
-        put(rt, field, 3, &cols);
-        put(rt, field, 6, &vals);
-        put(rt, field, 9, &[1, 2, 3, 9, 9]);
+        put(field, 0, &starts)?;
+        put(field, 3, &cols)?;
+        put(field, 6, &vals)?;
+        put(field, 9, &[1, 2, 3, 9, 9])?;
         run(
-            rt,
             field,
             Op::Spmv(
                 part(12, 14),
@@ -321,17 +322,17 @@ fn rows_of_a_sparse_product<F: Field>(
                 part(6, 9),
                 part(9, 12),
             ),
-        );
-        expect_words(rt, field, 12, &wanted);
+        )?;
+        expect_words(field, 12, &wanted)?;
     }
     Ok(())
 }
 
-fn each_table<F: Field>(rt: &impl Abort, alloc: Global, field: &mut F) -> Result<(), Fail> {
-    each_operation_in_a_row(rt, alloc, field)?;
-    words_wrap_and_rows_end(rt, alloc, field)?;
-    apart_and_in_place(rt, alloc, field)?;
-    rows_of_a_sparse_product(rt, alloc, field)?;
+fn each_table<F: Field>(alloc: Global, field: &mut F) -> Result<(), Fail> {
+    each_operation_in_a_row(alloc, field)?;
+    words_wrap_and_rows_end(alloc, field)?;
+    apart_and_in_place(alloc, field)?;
+    rows_of_a_sparse_product(alloc, field)?;
     Ok(())
 }
 
@@ -339,12 +340,12 @@ fn each_table<F: Field>(rt: &impl Abort, alloc: Global, field: &mut F) -> Result
 fn operations_on_a_field_of_maps(rt: HostRuntime) -> Result<(), Fail> {
     let alloc = rt.alloc();
     let mut field = MapField::empty(alloc);
-    each_table(&rt, alloc, &mut field)
+    each_table(alloc, &mut field)
 }
 
 #[test]
 fn operations_on_a_flat_field(rt: HostRuntime) -> Result<(), Fail> {
     let alloc = rt.alloc();
     let mut field = ScriptField::empty(alloc);
-    each_table(&rt, alloc, &mut field)
+    each_table(alloc, &mut field)
 }

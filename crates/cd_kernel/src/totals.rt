@@ -1,8 +1,7 @@
-// Sums and the greatest of all words of a range, taken in blocks.
-ghost use Rattle.std.specs.Prelude.{◌≡◌, ℕ, ◌+◌, ◌*◌, ◌<◌, ◌≤◌, length, max};
-ghost use Rattle.cd_base.specs.Words.{word_of};
-ghost use Rattle.cd_tree.specs.Operations.{greatest, length_of, nth_word, total};
-ghost use Rattle.cd_kernel.specs.Computing.{IsHere};
+// What is made of all words of a range, taken in blocks.
+ghost use Rattle.std.specs.Prelude.{◌≡◌, ◌+◌, ◌<◌, ◌≤◌, length};
+ghost use Rattle.cd_tree.specs.Operations.{length_of};
+ghost use Rattle.cd_kernel.specs.Computing.{gathered, gathered_on, CanGather, IsHere};
 
 use crate::lists::{add_all, add_products, greatest_with};
 use crate::words::run_from;
@@ -22,91 +21,62 @@ pub(crate) fn block_length(at: u32, count: u32) -> u32
     (count - at).min(BLOCK as u32)
 }
 
-/// The sum of all words of a range.
-pub(crate) fn sum_of_all<F: Field>(x: Range, field: &F) -> u64
-    requires { IsHere (F.model field.now) x }
-    ensures { result ≡ word_of (total (nth_word (F.model field.now).words x) (length_of x)) }
-{
-    let count = x.high.saturating_sub(x.low);
-    let mut room = [0; BLOCK];
-    let mut sum = 0u64;
-    let mut at = 0;
-    while at < count {
-        let length = block_length(at, count);
-        sum = add_block(sum, x, at, &mut room[..length as usize], field);
-        at += length;
-    }
-    sum
+/// What is made of all words of a range: their sum, the sum of their products with those of another, or the greatest of them.
+#[derive(Debug, Clone, Copy)]
+pub(crate) enum Gathering {
+    Adding,
+    Multiplying(Range),
+    Comparing,
 }
 
-fn add_block<F: Field>(sum: u64, x: Range, at: u32, room: &mut [u64], field: &F) -> u64
-    requires inside { at + length room.old ≤ length_of x }
+/// What is made of all words of a range, a block at a time.
+pub(crate) fn gather<F: Field>(gathering: Gathering, x: Range, field: &F) -> u64
     requires here { IsHere (F.model field.now) x }
-    ensures { result ≡ word_of (sum + total (λ j. nth_word (F.model field.now).words x (at + j)) (length room.old)) }
-{
-    add_all(sum, run_from(x, at, room, field))
-}
-
-/// The sum of the products of the words of two ranges.
-pub(crate) fn sum_of_products<F: Field>(x: Range, z: Range, field: &F) -> u64
-    requires same { length_of x ≡ length_of z }
-    requires here { IsHere (F.model field.now) x × IsHere (F.model field.now) z }
-    ensures { result ≡ word_of (total (λ j. nth_word (F.model field.now).words x j * nth_word (F.model field.now).words z j) (length_of x)) }
+    requires both { CanGather (F.model field.now) x gathering }
+    ensures { result ≡ gathered gathering (F.model field.now).words x (length_of x) }
 {
     let count = x.high.saturating_sub(x.low);
     let mut room = [0; BLOCK];
     let mut other = [0; BLOCK];
-    let mut sum = 0u64;
+    let mut so_far = 0u64;
     let mut at = 0;
     while at < count {
         let length = block_length(at, count);
         let end = length as usize;
-        sum = add_product_block(sum, x, z, at, &mut room[..end], &mut other[..end], field);
+        so_far = gather_block(
+            gathering,
+            so_far,
+            x,
+            at,
+            &mut room[..end],
+            &mut other[..end],
+            field,
+        );
         at += length;
     }
-    sum
+    so_far
 }
 
-fn add_product_block<F: Field>(
-    sum: u64,
+// The same goes on over as many words from one on as the rooms have.
+fn gather_block<F: Field>(
+    gathering: Gathering,
+    so_far: u64,
     x: Range,
-    z: Range,
     at: u32,
     room: &mut [u64],
     other: &mut [u64],
     field: &F,
 ) -> u64
-    requires inside { (at + length room.old ≤ length_of x) × (at + length other.old ≤ length_of z) }
+    requires inside { at + length room.old ≤ length_of x }
     requires same { length room.old ≡ length other.old }
-    requires here { IsHere (F.model field.now) x × IsHere (F.model field.now) z }
-    ensures { result ≡ word_of (sum + total (λ j. nth_word (F.model field.now).words x (at + j) * nth_word (F.model field.now).words z (at + j)) (length room.old)) }
+    requires here { IsHere (F.model field.now) x }
+    requires both { CanGather (F.model field.now) x gathering }
+    ensures { result ≡ gathered_on gathering (F.model field.now).words x at so_far (length room.old) }
 {
     let xs = run_from(x, at, room, field);
-    let zs = run_from(z, at, other, field);
-    add_products(sum, xs, zs)
-}
-
-/// The greatest word of a range.
-pub(crate) fn greatest_word<F: Field>(x: Range, field: &F) -> u64
-    requires { IsHere (F.model field.now) x }
-    ensures { result ≡ greatest (nth_word (F.model field.now).words x) (length_of x) }
-{
-    let count = x.high.saturating_sub(x.low);
-    let mut room = [0; BLOCK];
-    let mut most = 0u64;
-    let mut at = 0;
-    while at < count {
-        let length = block_length(at, count);
-        most = greatest_in_block(most, x, at, &mut room[..length as usize], field);
-        at += length;
+    match gathering {
+        Gathering::Adding => add_all(so_far, xs),
+        Gathering::Multiplying(z) => add_products(so_far, xs, run_from(z, at, other, field)),
+        Gathering::Comparing => greatest_with(so_far, xs),
     }
-    most
-}
-
-fn greatest_in_block<F: Field>(most: u64, x: Range, at: u32, room: &mut [u64], field: &F) -> u64
-    requires inside { at + length room.old ≤ length_of x }
-    requires here { IsHere (F.model field.now) x }
-    ensures { result ≡ max most (greatest (λ j. nth_word (F.model field.now).words x (at + j)) (length room.old)) }
-{
-    greatest_with(most, run_from(x, at, room, field))
 }

@@ -1,7 +1,7 @@
 // The words of a range by their number, and in runs.
-ghost use Rattle.std.specs.Prelude.{◌≡◌, ℕ, ◌+◌, ◌<◌, ◌≤◌, length, slice_index};
+ghost use Rattle.std.specs.Prelude.{◌≡◌, ℕ, ◌+◌, ◌<◌, ◌≤◌, ◌∷◌, [], length, slice_index, IfSome};
 ghost use Rattle.cd_tree.specs.Operations.{length_of, nth_word};
-ghost use Rattle.cd_field.specs.FieldModel.{wrote_run};
+ghost use Rattle.cd_field.specs.FieldModel.{FieldModel, ArePresent, words_in, wrote_run};
 ghost use Rattle.cd_kernel.specs.Computing.{IsHere, nth_place, run_of};
 
 use cd_base::{Place, Range};
@@ -25,6 +25,14 @@ fn nth(range: Range, i: u32) -> Place
         region: range.region,
         index: range.low + i,
     }
+}
+
+/// The words of a range, where the machine lends them.
+pub(crate) fn lent<F: Field>(range: Range, field: &F) -> Option<&[u64]>
+    requires { IsHere (F.model field.now) range }
+    ensures { IfSome result (λ words. words.now ≡ words_in (F.model field.now).words range) }
+{
+    field.lent(range)
 }
 
 /// The words of a range from one on, as many as the list takes, into it.
@@ -60,10 +68,12 @@ pub(crate) fn write_from<F: Field>(range: Range, at: u32, words: &[u64], field: 
     field.write_run(part(range, at, words.len() as u32), words);
 }
 
-// So many places of a range from one on.
+// So many places of a range from one on. Where the range is there, so are they.
 fn part(range: Range, at: u32, count: u32) -> Range
     requires { at + count ≤ length_of range }
-    ensures { result ≡ run_of range at count }
+    ensures run { result ≡ run_of range at count }
+    ensures long { count ≡ length_of result }
+    ensures present { (m : FieldModel) → IsHere m range → ArePresent m (result ∷ []) }
 {
     let low = range.low + at;
     Range {

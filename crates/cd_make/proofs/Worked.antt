@@ -1,12 +1,7 @@
 -- The document of size 1, whole: proved by computing both sides.
 use Rattle.std.proofs.Common.{◌≡◌, ◌++◌, refl, codes}
 use Rattle.std.specs.Fmt.{digits}
-use Rattle.cd_make.specs.Making.{regions, text_of, make_text}
-
-regions_of_1 : text_of (regions 1)
-    ≡ codes "cd 1\nregion starts 17 iota 0 2\nregion cols 32 iota 0 1\nregion vals 32 const 3\nregion x 32 iota 1 1\nregion y 16 const 0\nregion total 1 const 0\nregion u 66 iota 0 1\nregion t 64 const 0\n"
-unfolding digits
-regions_of_1 = refl
+use Rattle.cd_make.specs.Making.{make_text}
 
 whole_of_1 : make_text 1
     ≡ codes "cd 1\nregion starts 17 iota 0 2\nregion cols 32 iota 0 1\nregion vals 32 const 3\nregion x 32 iota 1 1\nregion y 16 const 0\nregion total 1 const 0\nregion u 66 iota 0 1\nregion t 64 const 0\n"

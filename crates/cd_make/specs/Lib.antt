@@ -1,1 +1,2 @@
+-- The generated document.
 pub mod Making

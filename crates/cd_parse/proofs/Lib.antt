@@ -1,13 +1,13 @@
 pub mod ParseLemmas
 pub mod SoundWellRead
-mod SoundToldWords
+mod SoundToldStatements
 mod SoundTold
 mod SoundNumbers
 pub mod SoundKeeps
-mod SoundNamedWords
+mod SoundNamedStatements
 mod SoundNamed
 mod SoundPlaces
-pub mod SoundReading
+pub mod SoundParsing
 pub mod SoundBodies
 mod SoundStatements
 mod SoundNames

@@ -2,9 +2,9 @@
 use Rattle.std.proofs.Common.{◌≡◌, ℕ, List, Ok, refl}
 use Rattle.cd_tree.specs.declared.refusal.Refuse.{Refuse}
 use Rattle.cd_tree.specs.declared.refusal.Refuse.TheVariants as refuse
-use Rattle.cd_words.specs.Steps.{Refuses}
+use Rattle.cd_tokens.specs.Steps.{Refuses}
 use Rattle.cd_parse.specs.Draft.{DraftModel, document_of}
-use Rattle.cd_parse.specs.Reading.{draft_of, parse}
+use Rattle.cd_parse.specs.Parsing.{draft_of, parse}
 
 pub parse_made : (bytes : List ℕ) (draft : DraftModel) → draft_of bytes ≡ Ok draft → parse bytes ≡ Ok (document_of draft)
 unfolding parse

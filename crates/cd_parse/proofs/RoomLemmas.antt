@@ -1,18 +1,18 @@
--- The room that a statement has where its tests hold, and that reading keeps a draft sound.
+-- The room that a statement has where its tests hold, and that parsing keeps a draft sound.
 use Rattle.std.proofs.Common.{◌≡◌, ℕ, zero, suc, ◌<◌, List, [], ◌∷◌, ◌++◌, Some, Ok, Result, slice_get, sym, ◌∙◌}
 use Rattle.cd_tree.specs.declared.refusal.Refusal.{Refusal}
 use Rattle.cd_tree.specs.declared.refusal.Which.{Which}
-use Rattle.cd_words.specs.declared.lines.Line.{Line}
-use Rattle.cd_words.specs.declared.sums.Variable.{Variable}
-use Rattle.cd_words.specs.declared.wrong.Wrong.{Wrong}
-use Rattle.cd_words.specs.Wrongs.{room, all_hold}
+use Rattle.cd_tokens.specs.declared.lines.Line.{Line}
+use Rattle.cd_tokens.specs.declared.sums.Variable.{Variable}
+use Rattle.cd_tokens.specs.declared.wrong.Wrong.{Wrong}
+use Rattle.cd_tokens.specs.Wrongs.{room, all_hold}
 use Rattle.cd_parse.specs.Draft.{DraftModel}
-use Rattle.cd_parse.specs.Reading.{counted, taken, looped, variable_of}
+use Rattle.cd_parse.specs.Parsing.{counted, taken, looped, variable_of}
 use Rattle.cd_parse.specs.Turns.{read_from, turn_from}
 use Rattle.cd_parse.specs.Sound.{IsSound}
 use Rattle.cd_parse.proofs.SoundGuards.{Bound, bound, room_ok, hold_ok}
 use Rattle.cd_parse.proofs.SoundKeeps.{counted_keeps, taken_keeps, looped_keeps, read_keeps}
-use Rattle.cd_parse.proofs.SoundReading.{sound_is_kept}
+use Rattle.cd_parse.proofs.SoundParsing.{sound_is_kept}
 
 -- ---- tests that hold
 
@@ -28,7 +28,7 @@ pub room_held : (k : ℕ) (tests : List (Result (Unit {0}) Wrong)) (test : Resul
     → slice_get tests k ≡ Some test → test ≡ room limit most count → all_hold tests ≡ Ok tt → count < most
 room_held k tests test limit most count there is all = room_ok limit most count tt (sym is ∙ holds_at k tests test there all)
 
--- ---- reading
+-- ---- parsing
 
 -- what a statement, a loop and a turn leave is sound
 pub taken_sound : (variables : List Variable) (line : Line) (draft next : DraftModel) → IsSound draft → taken variables line draft ≡ Ok next → IsSound next

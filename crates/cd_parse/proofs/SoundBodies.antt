@@ -12,11 +12,11 @@ use Rattle.cd_tree.specs.declared.kinds.Kind.{Kind}
 use Rattle.cd_tree.specs.declared.operation.Op.{Op}
 use Rattle.cd_tree.specs.declared.refusal.Which.TheVariants as which
 use Rattle.cd_tree.specs.Operations.{IsFull, FitsShape}
-use Rattle.cd_words.specs.declared.wrong.Wrong.{Wrong}
-use Rattle.cd_words.specs.declared.wrong.Wrong.TheVariants.{Form, Unfit}
-use Rattle.cd_words.specs.declared.sums.Variable.{Variable}
-use Rattle.cd_words.specs.Wrongs.{both, guard, room}
-use Rattle.cd_words.specs.Names.{path}
+use Rattle.cd_tokens.specs.declared.wrong.Wrong.{Wrong}
+use Rattle.cd_tokens.specs.declared.wrong.Wrong.TheVariants.{Form, Unfit}
+use Rattle.cd_tokens.specs.declared.sums.Variable.{Variable}
+use Rattle.cd_tokens.specs.Wrongs.{both, guard, room}
+use Rattle.cd_tokens.specs.Names.{path}
 use Rattle.cd_parse.specs.declared.draft.Stage.TheVariants.{Strikes}
 use Rattle.cd_parse.specs.declared.draft.Level.{Level}
 use Rattle.cd_parse.specs.Draft.{DraftModel, is_open, takes_items, takes_entries, is_closed, takes_strikes, add_item, add_entry, open_group, close_group, close_domain, innermost}
@@ -58,20 +58,20 @@ with_entry_keeps draft range how next sound takes full is =
     (room_ok which.Entries 64 (entries_of (slice_get draft.domains (innermost draft.levels))) tt one.0)
     (room_ok which.Preserves 16384 draft.preserves tt two.0)) parts.is
 
-preserve_keeps : (variables : List Variable) (draft : DraftModel) (words : List (List ℕ)) (next : DraftModel) → IsSound draft
-    → preserve_in variables draft words ≡ Ok next → IsSound next
+preserve_keeps : (variables : List Variable) (draft : DraftModel) (tokens : List (List ℕ)) (next : DraftModel) → IsSound draft
+    → preserve_in variables draft tokens ≡ Ok next → IsSound next
 unfolding preserve_in
 preserve_keeps variables draft [] next sound is = absurd (cc)
-preserve_keeps variables draft (word ∷ more) next sound is =
+preserve_keeps variables draft (token ∷ more) next sound is =
     let test : Result (Unit {0}) Wrong = guard (takes_entries draft draft.levels) Form in
-    let rest : Result (Range × How) Wrong = both (range_in variables draft.regions word) (how_in variables more) in
+    let rest : Result (Range × How) Wrong = both (range_in variables draft.regions token) (how_in variables more) in
     let parts : Bound (Unit {0} × (Range × How)) DraftModel Wrong (both test rest) (λ p. with_entry_of draft p.1.0 p.1.1) next =
     bound (Unit {0} × (Range × How)) DraftModel Wrong (both test rest) (λ p. with_entry_of draft p.1.0 p.1.1) next is in
     let v : Unit {0} × (Range × How) = parts.value in
     let one = both_ok (Unit {0}) (Range × How) test rest v parts.is in
-    let two = both_ok Range How (range_in variables draft.regions word) (how_in variables more) v.1 one.1 in
+    let two = both_ok Range How (range_in variables draft.regions token) (how_in variables more) v.1 one.1 in
     with_entry_keeps draft v.1.0 v.1.1 next sound (guard_ok (takes_entries draft draft.levels) Form v.0 one.0)
-    (range_full variables draft.regions word v.1.0 sound.regions two.0) parts.next
+    (range_full variables draft.regions token v.1.0 sound.regions two.0) parts.next
 
 -- ---- operations
 
@@ -101,16 +101,16 @@ with_op_keeps draft op next sound takes full is =
     (op_inside draft draft.levels op sound takes full (shape_of op (guard_ok (fits op) Unfit tt one.0)) (room_ok which.Items 16384 draft.items tt two.0))
     parts.is
 
-operation_keeps : (variables : List Variable) (draft : DraftModel) (keyword : List ℕ) (words : List (List ℕ)) (next : DraftModel) → IsSound draft
-    → operation_in variables draft keyword words ≡ Ok next → IsSound next
+operation_keeps : (variables : List Variable) (draft : DraftModel) (keyword : List ℕ) (tokens : List (List ℕ)) (next : DraftModel) → IsSound draft
+    → operation_in variables draft keyword tokens ≡ Ok next → IsSound next
 unfolding operation_in
-operation_keeps variables draft keyword words next sound is =
+operation_keeps variables draft keyword tokens next sound is =
     let test : Result (Unit {0}) Wrong = guard (takes_items draft.levels) Form in
-    let parts : Bound (Unit {0} × Op) DraftModel Wrong (both test (op_in variables draft.regions keyword words)) (λ p. with_op draft p.1) next =
-    bound (Unit {0} × Op) DraftModel Wrong (both test (op_in variables draft.regions keyword words)) (λ p. with_op draft p.1) next is in
-    let one = both_ok (Unit {0}) Op test (op_in variables draft.regions keyword words) parts.value parts.is in
+    let parts : Bound (Unit {0} × Op) DraftModel Wrong (both test (op_in variables draft.regions keyword tokens)) (λ p. with_op draft p.1) next =
+    bound (Unit {0} × Op) DraftModel Wrong (both test (op_in variables draft.regions keyword tokens)) (λ p. with_op draft p.1) next is in
+    let one = both_ok (Unit {0}) Op test (op_in variables draft.regions keyword tokens) parts.value parts.is in
     with_op_keeps draft parts.value.1 next sound (guard_ok (takes_items draft.levels) Form parts.value.0 one.0)
-    (op_full variables draft.regions keyword words parts.value.1 sound.regions one.1) parts.next
+    (op_full variables draft.regions keyword tokens parts.value.1 sound.regions one.1) parts.next
 
 -- ---- group and end
 
@@ -125,7 +125,7 @@ group_inside : (draft : DraftModel) (levels : List Level) → IsSound (at_levels
 group_inside draft [] sound takes room = absurd (cc)
 group_inside draft (level ∷ outer) sound takes room = group_in_group draft level.domain level.group outer sound takes room
 
-group_keeps : (draft : DraftModel) (words : List (List ℕ)) (next : DraftModel) → IsSound draft → group_in draft words ≡ Ok next → IsSound next
+group_keeps : (draft : DraftModel) (tokens : List (List ℕ)) (next : DraftModel) → IsSound draft → group_in draft tokens ≡ Ok next → IsSound next
 unfolding group_in
 group_keeps draft [] next sound is =
     let test : Result (Unit {0}) Wrong = guard (takes_items draft.levels) Form in
@@ -136,7 +136,7 @@ group_keeps draft [] next sound is =
     let two = hold_ok few [] tt one.1 in
     sound_as made next
     (group_inside draft draft.levels sound (guard_ok (takes_items draft.levels) Form tt one.0) (room_ok which.Items 16384 draft.items tt two.0)) parts.is
-group_keeps draft (word ∷ words) next sound is = absurd (cc)
+group_keeps draft (token ∷ tokens) next sound is = absurd (cc)
 
 ended_group : (draft : DraftModel) (at : ℕ) (group : Option (List NodeId)) (outer : List Level) (next : DraftModel)
     → IsSound (at_levels draft (record { domain = at; group = group } ∷ outer))
@@ -154,20 +154,20 @@ ended_inside : (draft : DraftModel) (levels : List Level) (next : DraftModel) �
 ended_inside draft [] next sound is = absurd (cc)
 ended_inside draft (level ∷ outer) next sound is = ended_group draft level.domain level.group outer next sound is
 
-end_keeps : (draft : DraftModel) (words : List (List ℕ)) (next : DraftModel) → IsSound draft → end_in draft words ≡ Ok next → IsSound next
+end_keeps : (draft : DraftModel) (tokens : List (List ℕ)) (next : DraftModel) → IsSound draft → end_in draft tokens ≡ Ok next → IsSound next
 unfolding end_in
 end_keeps draft [] next sound is = ended_inside draft draft.levels next sound is
-end_keeps draft (word ∷ words) next sound is = absurd (cc)
+end_keeps draft (token ∷ tokens) next sound is = absurd (cc)
 
 -- ---- faults and strikes
 
-faults_keep : (draft : DraftModel) (words : List (List ℕ)) (next : DraftModel) → IsSound draft → faults_in draft words ≡ Ok next → IsSound next
+faults_keep : (draft : DraftModel) (tokens : List (List ℕ)) (next : DraftModel) → IsSound draft → faults_in draft tokens ≡ Ok next → IsSound next
 unfolding faults_in
 faults_keep draft [] next sound is =
     let made : DraftModel = record draft { stage = Strikes } in
     let parts = tested (is_closed draft.stage) (Ok made) next is in
     sound_as made next (faults_are_sound draft sound parts.0) parts.1
-faults_keep draft (word ∷ words) next sound is = absurd (cc)
+faults_keep draft (token ∷ tokens) next sound is = absurd (cc)
 
 with_fault_keeps : (draft : DraftModel) (fault : RawFault) (next : DraftModel) → IsSound draft → with_fault draft fault ≡ Ok next → IsSound next
 with_fault_keeps draft fault next sound is =
@@ -176,8 +176,8 @@ with_fault_keeps draft fault next sound is =
     let parts : Bound (Unit {0}) DraftModel Wrong few (λ _. Ok made) next = bound (Unit {0}) DraftModel Wrong few (λ _. Ok made) next is in
     sound_as made next (fault_is_sound draft fault sound (room_ok which.Faults 256 (length draft.faults) parts.value parts.is)) parts.next
 
-strike_keeps : (variables : List Variable) (draft : DraftModel) (words : List (List ℕ)) (next : DraftModel) → IsSound draft
-    → strike_in variables draft words ≡ Ok next → IsSound next
+strike_keeps : (variables : List Variable) (draft : DraftModel) (tokens : List (List ℕ)) (next : DraftModel) → IsSound draft
+    → strike_in variables draft tokens ≡ Ok next → IsSound next
 unfolding strike_in
 strike_keeps variables draft [] next sound is = absurd (cc)
 strike_keeps variables draft (a ∷ []) next sound is = absurd (cc)
@@ -204,25 +204,25 @@ chosen_keeps : (test : Bool) (one other : Result DraftModel Wrong) (next : Draft
 chosen_keeps true one other next first second is = first is
 chosen_keeps false one other next first second is = second is
 
-statement_by_word_keeps : (variables : List Variable) (draft : DraftModel) (keyword : List ℕ) (words : List (List ℕ)) (next : DraftModel) → IsSound draft
-    → statement variables draft keyword words ≡ Ok next → IsSound next
+statement_by_keyword_keeps : (variables : List Variable) (draft : DraftModel) (keyword : List ℕ) (tokens : List (List ℕ)) (next : DraftModel) → IsSound draft
+    → statement variables draft keyword tokens ≡ Ok next → IsSound next
 unfolding statement
-statement_by_word_keeps variables draft keyword words next sound is =
-    chosen_keeps (bytes_eq keyword (codes "cd")) (cd_in draft words) _ next (cd_keeps draft words next sound)
-    (chosen_keeps (bytes_eq keyword (codes "kind")) (kind_in draft words) _ next (kind_keeps draft words next sound)
-    (chosen_keeps (bytes_eq keyword (codes "region")) (region_statement variables draft words) _ next (region_keeps variables draft words next sound)
-    (chosen_keeps (bytes_eq keyword (codes "domain")) (domain_in variables draft words) _ next (domain_keeps variables draft words next sound)
-    (chosen_keeps (bytes_eq keyword (codes "preserve")) (preserve_in variables draft words) _ next (preserve_keeps variables draft words next sound)
-    (chosen_keeps (bytes_eq keyword (codes "group")) (group_in draft words) _ next (group_keeps draft words next sound)
-    (chosen_keeps (bytes_eq keyword (codes "end")) (end_in draft words) _ next (end_keeps draft words next sound)
-    (chosen_keeps (bytes_eq keyword (codes "faults")) (faults_in draft words) _ next (faults_keep draft words next sound)
-    (chosen_keeps (bytes_eq keyword (codes "strike")) (strike_in variables draft words) (operation_in variables draft keyword words) next
-    (strike_keeps variables draft words next sound)
-    (operation_keeps variables draft keyword words next sound))))))))) is
+statement_by_keyword_keeps variables draft keyword tokens next sound is =
+    chosen_keeps (bytes_eq keyword (codes "cd")) (cd_in draft tokens) _ next (cd_keeps draft tokens next sound)
+    (chosen_keeps (bytes_eq keyword (codes "kind")) (kind_in draft tokens) _ next (kind_keeps draft tokens next sound)
+    (chosen_keeps (bytes_eq keyword (codes "region")) (region_statement variables draft tokens) _ next (region_keeps variables draft tokens next sound)
+    (chosen_keeps (bytes_eq keyword (codes "domain")) (domain_in variables draft tokens) _ next (domain_keeps variables draft tokens next sound)
+    (chosen_keeps (bytes_eq keyword (codes "preserve")) (preserve_in variables draft tokens) _ next (preserve_keeps variables draft tokens next sound)
+    (chosen_keeps (bytes_eq keyword (codes "group")) (group_in draft tokens) _ next (group_keeps draft tokens next sound)
+    (chosen_keeps (bytes_eq keyword (codes "end")) (end_in draft tokens) _ next (end_keeps draft tokens next sound)
+    (chosen_keeps (bytes_eq keyword (codes "faults")) (faults_in draft tokens) _ next (faults_keep draft tokens next sound)
+    (chosen_keeps (bytes_eq keyword (codes "strike")) (strike_in variables draft tokens) (operation_in variables draft keyword tokens) next
+    (strike_keeps variables draft tokens next sound)
+    (operation_keeps variables draft keyword tokens next sound))))))))) is
 
 -- a statement keeps a draft sound
-pub statement_keeps_sound : (variables : List Variable) (words : List (List ℕ)) (draft next : DraftModel) → IsSound draft
-    → statement_in variables words draft ≡ Ok next → IsSound next
+pub statement_keeps_sound : (variables : List Variable) (tokens : List (List ℕ)) (draft next : DraftModel) → IsSound draft
+    → statement_in variables tokens draft ≡ Ok next → IsSound next
 unfolding statement_in
 statement_keeps_sound variables [] draft next sound is = absurd (cc)
-statement_keeps_sound variables (keyword ∷ words) draft next sound is = statement_by_word_keeps variables draft keyword words next sound is
+statement_keeps_sound variables (keyword ∷ tokens) draft next sound is = statement_by_keyword_keeps variables draft keyword tokens next sound is

@@ -2,8 +2,8 @@
 use Rattle.std.proofs.Common.{◌≡◌, ℕ, ◌<◌, Bool, true, false, nat_lt, List, ◌∷◌, Result, Ok, Err, refl, ap, inl, inr, ◌⊎◌, ltb-true, if◌then◌else◌}
 use Rattle.cd_tree.specs.declared.refusal.Which.{Which}
 use Rattle.cd_tree.specs.declared.refusal.Refusal.{Refusal}
-use Rattle.cd_words.specs.declared.wrong.Wrong.{Wrong}
-use Rattle.cd_words.specs.Wrongs.{both, guard, room, all_hold, at_line, ◌>>=◌}
+use Rattle.cd_tokens.specs.declared.wrong.Wrong.{Wrong}
+use Rattle.cd_tokens.specs.Wrongs.{both, guard, room, all_hold, at_line, ◌>>=◌}
 
 -- a step that has a value, and what the step behind it made of that value
 pub record Bound (A B E : Type 0) (r : Result A E) (f : A → Result B E) (b : B) : Type 0 where

@@ -1,24 +1,24 @@
--- What every statement keeps of a draft, reading keeps: the draft that a document is of has it.
+-- What every statement keeps of a draft, parsing keeps: the draft that a document is of has it.
 use Rattle.std.proofs.Common.{◌≡◌, ℕ, zero, suc, ◌+◌, ◌-◌, nat_lt, true, List, [], ◌∷◌, ◌++◌, Result, Ok, length, subst}
 use Rattle.cd_tree.specs.declared.document.Document.{Document}
 use Rattle.cd_tree.specs.declared.refusal.Refusal.{Refusal}
 use Rattle.cd_tree.specs.declared.refusal.Refusal.TheVariants as refusal
 use Rattle.cd_tree.specs.declared.refusal.Which.TheVariants.{Lines}
-use Rattle.cd_words.specs.declared.lines.Line.{Line}
-use Rattle.cd_words.specs.declared.sums.Variable.{Variable}
-use Rattle.cd_words.specs.Wrongs.{at_line, ◌>>=◌}
-use Rattle.cd_words.specs.Lines.{lines}
-use Rattle.cd_words.specs.Blocks.{marked_lines, Block, stop, says, repeats, here, blocks}
+use Rattle.cd_tokens.specs.declared.lines.Line.{Line}
+use Rattle.cd_tokens.specs.declared.sums.Variable.{Variable}
+use Rattle.cd_tokens.specs.Wrongs.{at_line, ◌>>=◌}
+use Rattle.cd_tokens.specs.Lines.{lines}
+use Rattle.cd_tokens.specs.Blocks.{marked_lines, Block, stop, says, repeats, here, blocks}
 use Rattle.cd_parse.specs.Draft.{DraftModel, no_draft, may_end, document_of}
 use Rattle.cd_parse.specs.Statements.{statement_in}
-use Rattle.cd_parse.specs.Reading.{counted, taken, Loop, loop_in, variable_of, turns, all_turns, looped, read, ended, draft_of, parse}
+use Rattle.cd_parse.specs.Parsing.{counted, taken, Loop, loop_in, variable_of, turns, all_turns, looped, read, ended, draft_of, parse}
 use Rattle.cd_parse.proofs.SoundGuards.{Bound, bound, same_ok, if_else_err, at_line_ok}
 
 -- a property of drafts that a count and every statement keep
 pub record IsKept (P : DraftModel → Type 0) : Type 0 where
   pub count : (draft : DraftModel) (number : ℕ) → P draft → P (record draft { lines = number })
-  pub statement : (variables : List Variable) (words : List (List ℕ)) (draft next : DraftModel) → P draft
-      → statement_in variables words draft ≡ Ok next → P next
+  pub statement : (variables : List Variable) (tokens : List (List ℕ)) (draft next : DraftModel) → P draft
+      → statement_in variables tokens draft ≡ Ok next → P next
 
 pub counted_keeps : (P : DraftModel → Type 0) → IsKept P → (draft next : DraftModel) → P draft → counted draft ≡ Ok next → P next
 counted_keeps P kept draft next holds is =
@@ -30,10 +30,10 @@ pub taken_keeps : (P : DraftModel → Type 0) → IsKept P → (variables : List
     → taken variables line draft ≡ Ok next → P next
 unfolding taken
 taken_keeps P kept variables line draft next holds is =
-    let step : DraftModel → Result DraftModel Refusal = λ from. at_line line.number (statement_in variables line.words from) in
+    let step : DraftModel → Result DraftModel Refusal = λ from. at_line line.number (statement_in variables line.tokens from) in
     let parts : Bound DraftModel DraftModel Refusal (counted draft) step next = bound DraftModel DraftModel Refusal (counted draft) step next is in
-    kept.statement variables line.words parts.value next (counted_keeps P kept draft parts.value holds parts.is)
-    (at_line_ok DraftModel line.number (statement_in variables line.words parts.value) next parts.next)
+    kept.statement variables line.tokens parts.value next (counted_keeps P kept draft parts.value holds parts.is)
+    (at_line_ok DraftModel line.number (statement_in variables line.tokens parts.value) next parts.next)
 
 -- what each turn of a loop does keeps the property
 abbrev pub Keeps : (DraftModel → Type 0) → (List Variable → DraftModel → Result DraftModel Refusal) → Type 0
@@ -54,8 +54,8 @@ pub looped_keeps : (P : DraftModel → Type 0) → IsKept P → (body : List Var
     (line : Line) (draft next : DraftModel) → P draft → looped body variables line draft ≡ Ok next → P next
 unfolding looped
 looped_keeps P kept body keeps variables line draft next holds is =
-    let loop : Bound Loop DraftModel Refusal (at_line line.number (loop_in variables line.words)) (λ loop. all_turns body variables loop draft) next =
-    bound Loop DraftModel Refusal (at_line line.number (loop_in variables line.words)) (λ loop. all_turns body variables loop draft) next is in
+    let loop : Bound Loop DraftModel Refusal (at_line line.number (loop_in variables line.tokens)) (λ loop. all_turns body variables loop draft) next =
+    bound Loop DraftModel Refusal (at_line line.number (loop_in variables line.tokens)) (λ loop. all_turns body variables loop draft) next is in
     turns_keep P kept body keeps variables loop.value.variable loop.value.low (loop.value.high - loop.value.low) draft next holds loop.next
 
 pub read_keeps : (P : DraftModel → Type 0) → IsKept P → (block : Block) (variables : List Variable) (draft next : DraftModel) → P draft

@@ -8,13 +8,13 @@ use Rattle.std.proofs.lemmas.List.Elements.{All-cons, All-nil, All-contains}
 use Rattle.cd_tree.specs.declared.kinds.Kind.{Kind}
 use Rattle.cd_tree.specs.declared.kinds.KindName.{KindName}
 use Rattle.cd_tree.specs.KindSets.{no_kinds, only_kind, with_kind, has_kind}
-use Rattle.cd_words.specs.declared.wrong.Wrong.{Wrong}
-use Rattle.cd_words.specs.declared.wrong.Wrong.TheVariants.{Form}
-use Rattle.cd_words.specs.declared.sums.Variable.{Variable}
-use Rattle.cd_words.specs.Wrongs.{both}
-use Rattle.cd_words.specs.Sums.{is_letter, is_name_byte, is_base}
-use Rattle.cd_words.specs.Names.{name}
-use Rattle.cd_words.specs.Kinds.{kind_from, kind, one_more_kind, with_kind_named, kinds_on, is_comma, kind_set}
+use Rattle.cd_tokens.specs.declared.wrong.Wrong.{Wrong}
+use Rattle.cd_tokens.specs.declared.wrong.Wrong.TheVariants.{Form}
+use Rattle.cd_tokens.specs.declared.sums.Variable.{Variable}
+use Rattle.cd_tokens.specs.Wrongs.{both}
+use Rattle.cd_tokens.specs.Sums.{is_letter, is_name_byte, is_base}
+use Rattle.cd_tokens.specs.Names.{name}
+use Rattle.cd_tokens.specs.Kinds.{kind_from, kind, one_more_kind, with_kind_named, kinds_on, is_comma, kind_set}
 use Rattle.cd_parse.proofs.SoundNumbers.{name_is_base}
 use Rattle.cd_parse.proofs.SoundGuards.{Bound, bound, both_ok, same_ok, if_ok}
 
@@ -39,16 +39,16 @@ bytes_are_no_slashes (b ∷ bytes) is =
     let parts = and_parts (is_name_byte b) (list_all is_name_byte bytes) is in
     All-cons IsNoSlash b bytes (byte_is_no_slash b parts.0) (bytes_are_no_slashes bytes parts.1)
 
-base_is_no_path : (word : List ℕ) → is_base word ≡ true → All IsNoSlash word
+base_is_no_path : (token : List ℕ) → is_base token ≡ true → All IsNoSlash token
 base_is_no_path [] is = absurd (cc)
 base_is_no_path (b ∷ bytes) is =
     let parts = and_parts (is_letter b) (list_all is_name_byte bytes) is in
     All-cons IsNoSlash b bytes (letter_is_no_slash b parts.0) (bytes_are_no_slashes bytes parts.1)
 
 -- a name is no path
-pub name_is_no_path : (variables : List Variable) (word text : List ℕ) → name variables word ≡ Ok text → Contains text 47 → ⊥
-name_is_no_path variables word text is slash =
-    All-contains IsNoSlash text 47 (base_is_no_path text (name_is_base variables word text is)) slash refl
+pub name_is_no_path : (variables : List Variable) (token text : List ℕ) → name variables token ≡ Ok text → Contains text 47 → ⊥
+name_is_no_path variables token text is slash =
+    All-contains IsNoSlash text 47 (base_is_no_path text (name_is_base variables token text is)) slash refl
 
 -- ---- kinds
 
@@ -87,23 +87,23 @@ one_more_known n set kind v below known is =
 kinds_on_known : (kinds : List KindName) (set : Result ℕ Wrong) (names : List (List ℕ)) → ((v : ℕ) → set ≡ Ok v → v < 2 ^ length kinds)
     → (v : ℕ) → kinds_on kinds set names ≡ Ok v → v < 2 ^ length kinds
 kinds_on_known kinds set [] known v is = known v is
-kinds_on_known kinds set (word ∷ names) known v is =
-    kinds_on_known kinds (with_kind_named kinds set word) names
+kinds_on_known kinds set (token ∷ names) known v is =
+    kinds_on_known kinds (with_kind_named kinds set token) names
     (λ u one_is.
-    let parts : Bound (ℕ × Kind) ℕ Wrong (both set (kind kinds word)) (λ p. one_more_kind p.0 p.1) u =
-    bound (ℕ × Kind) ℕ Wrong (both set (kind kinds word)) (λ p. one_more_kind p.0 p.1) u one_is in
-    let two = both_ok ℕ Kind set (kind kinds word) parts.value parts.is in
-    one_more_known (length kinds) parts.value.0 parts.value.1 u (known parts.value.0 two.0) (kind_known kinds word parts.value.1 two.1) parts.next)
+    let parts : Bound (ℕ × Kind) ℕ Wrong (both set (kind kinds token)) (λ p. one_more_kind p.0 p.1) u =
+    bound (ℕ × Kind) ℕ Wrong (both set (kind kinds token)) (λ p. one_more_kind p.0 p.1) u one_is in
+    let two = both_ok ℕ Kind set (kind kinds token) parts.value parts.is in
+    one_more_known (length kinds) parts.value.0 parts.value.1 u (known parts.value.0 two.0) (kind_known kinds token parts.value.1 two.1) parts.next)
     v is
 
 none_known : (n v : ℕ) → ◌≡◌ {A = Result ℕ Wrong} (Ok no_kinds) (Ok v) → v < 2 ^ n
 none_known n v is = subst (λ (x : ℕ). x < 2 ^ n) (same_ok ℕ Wrong no_kinds v is) (pow_pos n)
 
 -- the kinds that a domain finds are kinds of its document
-pub kind_set_known : (kinds : List KindName) (word : List ℕ) (set : ℕ) → kind_set kinds word ≡ Ok set → set < 2 ^ length kinds
+pub kind_set_known : (kinds : List KindName) (token : List ℕ) (set : ℕ) → kind_set kinds token ≡ Ok set → set < 2 ^ length kinds
 unfolding kind_set
-kind_set_known kinds word set is =
-    elim (if_ok ℕ Wrong (bytes_eq word (codes "none")) (Ok no_kinds) (kinds_on kinds (Ok no_kinds) (slice_split is_comma word)) set is) [
+kind_set_known kinds token set is =
+    elim (if_ok ℕ Wrong (bytes_eq token (codes "none")) (Ok no_kinds) (kinds_on kinds (Ok no_kinds) (slice_split is_comma token)) set is) [
       | inl none ↦ none_known (length kinds) set none.1
-      | inr some ↦ kinds_on_known kinds (Ok no_kinds) (slice_split is_comma word) (none_known (length kinds)) set some.1
+      | inr some ↦ kinds_on_known kinds (Ok no_kinds) (slice_split is_comma token) (none_known (length kinds)) set some.1
     ]

@@ -10,13 +10,13 @@ use Rattle.cd_base.specs.declared.pattern.Pattern.{Pattern}
 use Rattle.cd_base.specs.declared.pattern.Pattern.TheVariants.{Const, Iota, Mix}
 use Rattle.cd_tree.specs.declared.domain.How.{How}
 use Rattle.cd_tree.specs.declared.domain.How.TheVariants as how
-use Rattle.cd_words.specs.declared.wrong.Wrong.{Wrong}
-use Rattle.cd_words.specs.declared.wrong.Wrong.TheVariants.{Form, Overflow}
-use Rattle.cd_words.specs.declared.sums.Variable.{Variable}
-use Rattle.cd_words.specs.Wrongs.{both, guard, ◌>>=◌}
-use Rattle.cd_words.specs.Sums.{is_letter, is_name_byte, is_base, in_64_bits, term, is_minus, Part, parts_of, difference, joined, plus, sum_on, expression}
-use Rattle.cd_words.specs.Names.{is_colon, name_at, name, is_slash, slashed, one_more_name, path_on, path}
-use Rattle.cd_words.specs.Kinds.{short_pattern, long_pattern, pattern}
+use Rattle.cd_tokens.specs.declared.wrong.Wrong.{Wrong}
+use Rattle.cd_tokens.specs.declared.wrong.Wrong.TheVariants.{Form, Overflow}
+use Rattle.cd_tokens.specs.declared.sums.Variable.{Variable}
+use Rattle.cd_tokens.specs.Wrongs.{both, guard, ◌>>=◌}
+use Rattle.cd_tokens.specs.Sums.{is_letter, is_name_byte, is_base, in_64_bits, term, is_minus, Part, parts_of, difference, joined, plus, sum_on, expression}
+use Rattle.cd_tokens.specs.Names.{is_colon, name_at, name, is_slash, slashed, one_more_name, path_on, path}
+use Rattle.cd_tokens.specs.Kinds.{short_pattern, long_pattern, pattern}
 use Rattle.cd_parse.specs.Heads.{how_in}
 use Rattle.cd_parse.specs.WellRead.{IsReadPattern, IsReadHow, AreBases, IsReadPath}
 use Rattle.cd_parse.proofs.SoundGuards.{Bound, bound, both_ok, same_ok, guard_ok, if_ok, if_else_err}
@@ -54,15 +54,15 @@ sum_small : (variables : List Variable) (sum : Result ℕ Wrong) (parts : List P
     → sum_on variables sum parts ≡ Ok v → v < 2 ^ 64
 sum_small variables sum [] below v is = below v is
 sum_small variables sum (part ∷ parts) below v is =
-    sum_small variables (plus sum part.sign (term variables part.word)) parts (plus_small sum part.sign (term variables part.word) below) v is
+    sum_small variables (plus sum part.sign (term variables part.token)) parts (plus_small sum part.sign (term variables part.token) below) v is
 
 nought_small : (v : ℕ) → ◌≡◌ {A = Result ℕ Wrong} (Ok 0) (Ok v) → v < 2 ^ 64
 nought_small v is = subst (λ (x : ℕ). x < 2 ^ 64) (same_ok ℕ Wrong 0 v is) (omega arith)
 
 -- the value of an expression has 64 bits
-pub expression_small : (variables : List Variable) (word : List ℕ) (v : ℕ) → expression variables word ≡ Ok v → v < 2 ^ 64
+pub expression_small : (variables : List Variable) (token : List ℕ) (v : ℕ) → expression variables token ≡ Ok v → v < 2 ^ 64
 unfolding expression
-expression_small variables word v is = sum_small variables (Ok 0) (parts_of 43 word) nought_small v is
+expression_small variables token v is = sum_small variables (Ok 0) (parts_of 43 token) nought_small v is
 
 -- ---- patterns
 
@@ -94,7 +94,7 @@ long_read variables keyword start step p is =
     as_pattern (Iota parts.value.0 parts.value.1) p
     (expression_small variables start parts.value.0 two.0, expression_small variables step parts.value.1 two.1) parts.next
 
-pub pattern_read : (variables : List Variable) (words : List (List ℕ)) (p : Pattern) → pattern variables words ≡ Ok p → IsReadPattern p
+pub pattern_read : (variables : List Variable) (tokens : List (List ℕ)) (p : Pattern) → pattern variables tokens ≡ Ok p → IsReadPattern p
 unfolding pattern
 pattern_read variables [] p is = absurd (cc)
 pattern_read variables (keyword ∷ []) p is = absurd (cc)
@@ -105,25 +105,25 @@ pattern_read variables (keyword ∷ start ∷ step ∷ other ∷ more) p is = ab
 as_how : (one h : How) → IsReadHow one → ◌≡◌ {A = Result How Wrong} (Ok one) (Ok h) → IsReadHow h
 as_how one h read is = subst IsReadHow (same_ok How Wrong one h is) read
 
-regen_read : (variables : List Variable) (word : List ℕ) (more : List (List ℕ)) (h : How)
-    → (if bytes_eq word (codes "regen") then (pattern variables more >>= λ p. Ok (how.Regen p)) else Err Form) ≡ Ok h → IsReadHow h
-regen_read variables word more h is =
-    let regen = if_else_err How Wrong (bytes_eq word (codes "regen")) (pattern variables more >>= λ p. Ok (how.Regen p)) Form h is in
+regen_read : (variables : List Variable) (token : List ℕ) (more : List (List ℕ)) (h : How)
+    → (if bytes_eq token (codes "regen") then (pattern variables more >>= λ p. Ok (how.Regen p)) else Err Form) ≡ Ok h → IsReadHow h
+regen_read variables token more h is =
+    let regen = if_else_err How Wrong (bytes_eq token (codes "regen")) (pattern variables more >>= λ p. Ok (how.Regen p)) Form h is in
     let parts : Bound Pattern How Wrong (pattern variables more) (λ p. Ok (how.Regen p)) h =
     bound Pattern How Wrong (pattern variables more) (λ p. Ok (how.Regen p)) h regen.1 in
     as_how (how.Regen parts.value) h (pattern_read variables more parts.value parts.is) parts.next
 
-pub how_read : (variables : List Variable) (words : List (List ℕ)) (h : How) → how_in variables words ≡ Ok h → IsReadHow h
+pub how_read : (variables : List Variable) (tokens : List (List ℕ)) (h : How) → how_in variables tokens ≡ Ok h → IsReadHow h
 unfolding how_in
 how_read variables [] h is = absurd (cc)
-how_read variables (word ∷ []) h is =
-    elim (if_ok How Wrong (bytes_eq word (codes "copy")) (Ok how.Copy) _ h is) [
+how_read variables (token ∷ []) h is =
+    elim (if_ok How Wrong (bytes_eq token (codes "copy")) (Ok how.Copy) _ h is) [
       | inl copy ↦ as_how how.Copy h tt copy.1
       | inr other ↦
-          let refer = if_else_err How Wrong (bytes_eq word (codes "refer")) (Ok how.Refer) Form h other.1 in
+          let refer = if_else_err How Wrong (bytes_eq token (codes "refer")) (Ok how.Refer) Form h other.1 in
           as_how how.Refer h tt refer.1
     ]
-how_read variables (word ∷ next ∷ more) h is = regen_read variables word (next ∷ more) h is
+how_read variables (token ∷ next ∷ more) h is = regen_read variables token (next ∷ more) h is
 
 -- ---- names
 
@@ -156,18 +156,18 @@ base_more (b ∷ bytes) more is all =
     and_from (is_letter b) (list_all is_name_byte (bytes ++ more)) parts.0
     (list_all-append is_name_byte bytes more ∙ and_from (list_all is_name_byte bytes) (list_all is_name_byte more) parts.1 all)
 
-as_base : (one word : List ℕ) → is_base one ≡ true → ◌≡◌ {A = Result (List ℕ) Wrong} (Ok one) (Ok word) → is_base word ≡ true
-as_base one word base is = subst (λ (bytes : List ℕ). is_base bytes ≡ true) (same_ok (List ℕ) Wrong one word is) base
+as_base : (one token : List ℕ) → is_base one ≡ true → ◌≡◌ {A = Result (List ℕ) Wrong} (Ok one) (Ok token) → is_base token ≡ true
+as_base one token base is = subst (λ (bytes : List ℕ). is_base bytes ≡ true) (same_ok (List ℕ) Wrong one token is) base
 
-name_at_is_base : (variables : List Variable) (word : List ℕ) (at : Option ℕ) (text : List ℕ) → name_at variables word at ≡ Ok text
+name_at_is_base : (variables : List Variable) (token : List ℕ) (at : Option ℕ) (text : List ℕ) → name_at variables token at ≡ Ok text
     → is_base text ≡ true
-name_at_is_base variables word None text is =
-    let parts : Bound (Unit {0}) (List ℕ) Wrong (guard (is_base word) Form) (λ _. Ok word) text =
-    bound (Unit {0}) (List ℕ) Wrong (guard (is_base word) Form) (λ _. Ok word) text is in
-    as_base word text (guard_ok (is_base word) Form parts.value parts.is) parts.next
-name_at_is_base variables word (Some at) text is =
-    let base : List ℕ = take at word in
-    let number : List ℕ = drop (at + 1) word in
+name_at_is_base variables token None text is =
+    let parts : Bound (Unit {0}) (List ℕ) Wrong (guard (is_base token) Form) (λ _. Ok token) text =
+    bound (Unit {0}) (List ℕ) Wrong (guard (is_base token) Form) (λ _. Ok token) text is in
+    as_base token text (guard_ok (is_base token) Form parts.value parts.is) parts.next
+name_at_is_base variables token (Some at) text is =
+    let base : List ℕ = take at token in
+    let number : List ℕ = drop (at + 1) token in
     let parts : Bound (Unit {0} × ℕ) (List ℕ) Wrong (both (guard (is_base base) Form) (expression variables number)) (λ p. Ok (base ++ decimal p.1)) text =
     bound (Unit {0} × ℕ) (List ℕ) Wrong (both (guard (is_base base) Form) (expression variables number)) (λ p. Ok (base ++ decimal p.1)) text is in
     let tests = both_ok (Unit {0}) ℕ (guard (is_base base) Form) (expression variables number) parts.value parts.is in
@@ -175,26 +175,26 @@ name_at_is_base variables word (Some at) text is =
     (base_more base (decimal parts.value.1) (guard_ok (is_base base) Form parts.value.0 tests.0) (decimal_in_name parts.value.1)) parts.next
 
 -- a name is a base
-pub name_is_base : (variables : List Variable) (word text : List ℕ) → name variables word ≡ Ok text → is_base text ≡ true
+pub name_is_base : (variables : List Variable) (token text : List ℕ) → name variables token ≡ Ok text → is_base text ≡ true
 unfolding name
-name_is_base variables word text is = name_at_is_base variables word (position is_colon word) text is
+name_is_base variables token text is = name_at_is_base variables token (position is_colon token) text is
 
 -- ---- paths
 
-join_more : (first : List ℕ) (names : List (List ℕ)) (word : List ℕ)
-    → join_with_byte 47 (first ∷ (names ++ word ∷ [])) ≡ join_with_byte 47 (first ∷ names) ++ 47 ∷ word
-join_more first [] word = refl
-join_more first (next ∷ names) word =
-    ap (λ (rest : List ℕ). first ++ 47 ∷ rest) (join_more next names word)
-    ∙ sym (append_assoc first (47 ∷ join_with_byte 47 (next ∷ names)) (47 ∷ word))
+join_more : (first : List ℕ) (names : List (List ℕ)) (token : List ℕ)
+    → join_with_byte 47 (first ∷ (names ++ token ∷ [])) ≡ join_with_byte 47 (first ∷ names) ++ 47 ∷ token
+join_more first [] token = refl
+join_more first (next ∷ names) token =
+    ap (λ (rest : List ℕ). first ++ 47 ∷ rest) (join_more next names token)
+    ∙ sym (append_assoc first (47 ∷ join_with_byte 47 (next ∷ names)) (47 ∷ token))
 
-bases_more : (names : List (List ℕ)) (word : List ℕ) → AreBases names → is_base word ≡ true → AreBases (names ++ word ∷ [])
-bases_more [] word are is = (is, tt)
-bases_more (first ∷ names) word (here, are) is = (here, bases_more names word are is)
+bases_more : (names : List (List ℕ)) (token : List ℕ) → AreBases names → is_base token ≡ true → AreBases (names ++ token ∷ [])
+bases_more [] token are is = (is, tt)
+bases_more (first ∷ names) token (here, are) is = (here, bases_more names token are is)
 
-slashed_text : (text word : List ℕ) → (text ≡ [] → ⊥) → slashed text ++ word ≡ text ++ 47 ∷ word
-slashed_text [] word some = absurd (some refl)
-slashed_text (b ∷ text) word some = ap (λ (rest : List ℕ). b ∷ rest) (append_assoc text (47 ∷ []) word)
+slashed_text : (text token : List ℕ) → (text ≡ [] → ⊥) → slashed text ++ token ≡ text ++ 47 ∷ token
+slashed_text [] token some = absurd (some refl)
+slashed_text (b ∷ text) token some = ap (λ (rest : List ℕ). b ∷ rest) (append_assoc text (47 ∷ []) token)
 
 base_some : (first rest : List ℕ) → is_base first ≡ true → first ++ rest ≡ [] → ⊥
 base_some [] rest is none = absurd (cc)
@@ -205,27 +205,27 @@ path_some [] [] is none = absurd (cc)
 path_some (b ∷ first) [] is none = cc
 path_some first (next ∷ names) is none = base_some first (47 ∷ join_with_byte 47 (next ∷ names)) is none
 
-path_more : (text word : List ℕ) → IsReadPath text → is_base word ≡ true → IsReadPath (slashed text ++ word)
-path_more text word read is =
+path_more : (text token : List ℕ) → IsReadPath text → is_base token ≡ true → IsReadPath (slashed text ++ token)
+path_more text token read is =
     record {
       first = read.first;
-      names = read.names ++ word ∷ [];
-      bases = bases_more (read.first ∷ read.names) word read.bases is;
-      joined = slashed_text text word (λ none. path_some read.first read.names read.bases.0 (sym read.joined ∙ none))
-          ∙ ap (λ (bytes : List ℕ). bytes ++ 47 ∷ word) read.joined ∙ sym (join_more read.first read.names word);
+      names = read.names ++ token ∷ [];
+      bases = bases_more (read.first ∷ read.names) token read.bases is;
+      joined = slashed_text text token (λ none. path_some read.first read.names read.bases.0 (sym read.joined ∙ none))
+          ∙ ap (λ (bytes : List ℕ). bytes ++ 47 ∷ token) read.joined ∙ sym (join_more read.first read.names token);
     }
 
 as_path : (one text : List ℕ) → IsReadPath one → ◌≡◌ {A = Result (List ℕ) Wrong} (Ok one) (Ok text) → IsReadPath text
 as_path one text read is = subst IsReadPath (same_ok (List ℕ) Wrong one text is) read
 
-one_more_read : (variables : List Variable) (path : Result (List ℕ) Wrong) (word text : List ℕ)
-    → ((t : List ℕ) → path ≡ Ok t → (t ≡ []) ⊎ IsReadPath t) → one_more_name path (name variables word) ≡ Ok text → IsReadPath text
-one_more_read variables path word text read is =
-    let parts : Bound (List ℕ × List ℕ) (List ℕ) Wrong (both path (name variables word)) (λ p. Ok (slashed p.0 ++ p.1)) text =
-    bound (List ℕ × List ℕ) (List ℕ) Wrong (both path (name variables word)) (λ p. Ok (slashed p.0 ++ p.1)) text is in
+one_more_read : (variables : List Variable) (path : Result (List ℕ) Wrong) (token text : List ℕ)
+    → ((t : List ℕ) → path ≡ Ok t → (t ≡ []) ⊎ IsReadPath t) → one_more_name path (name variables token) ≡ Ok text → IsReadPath text
+one_more_read variables path token text read is =
+    let parts : Bound (List ℕ × List ℕ) (List ℕ) Wrong (both path (name variables token)) (λ p. Ok (slashed p.0 ++ p.1)) text =
+    bound (List ℕ × List ℕ) (List ℕ) Wrong (both path (name variables token)) (λ p. Ok (slashed p.0 ++ p.1)) text is in
     let v : List ℕ × List ℕ = parts.value in
-    let two = both_ok (List ℕ) (List ℕ) path (name variables word) v parts.is in
-    let base : is_base v.1 ≡ true = name_is_base variables word v.1 two.1 in
+    let two = both_ok (List ℕ) (List ℕ) path (name variables token) v parts.is in
+    let base : is_base v.1 ≡ true = name_is_base variables token v.1 two.1 in
     elim (read v.0 two.0) [
       | inl none ↦
           let only : IsReadPath v.1 = record { first = v.1; names = []; bases = (base, tt); joined = refl } in
@@ -234,19 +234,19 @@ one_more_read variables path word text read is =
       | inr some ↦ as_path (slashed v.0 ++ v.1) text (path_more v.0 v.1 some base) parts.next
     ]
 
-path_on_read : (variables : List Variable) (path : Result (List ℕ) Wrong) (words : List (List ℕ)) (text : List ℕ)
-    → ((t : List ℕ) → path ≡ Ok t → IsReadPath t) → path_on variables path words ≡ Ok text → IsReadPath text
+path_on_read : (variables : List Variable) (path : Result (List ℕ) Wrong) (tokens : List (List ℕ)) (text : List ℕ)
+    → ((t : List ℕ) → path ≡ Ok t → IsReadPath t) → path_on variables path tokens ≡ Ok text → IsReadPath text
 path_on_read variables path [] text read is = read text is
-path_on_read variables path (word ∷ words) text read is =
-    path_on_read variables (one_more_name path (name variables word)) words text
-    (λ t there. one_more_read variables path word t (λ u here. inr (read u here)) there) is
+path_on_read variables path (token ∷ tokens) text read is =
+    path_on_read variables (one_more_name path (name variables token)) tokens text
+    (λ t there. one_more_read variables path token t (λ u here. inr (read u here)) there) is
 
-from_none : (variables : List Variable) (words : List (List ℕ)) (text : List ℕ) → (words ≡ [] → ⊥) → path_on variables (Ok []) words ≡ Ok text
+from_none : (variables : List Variable) (tokens : List (List ℕ)) (text : List ℕ) → (tokens ≡ [] → ⊥) → path_on variables (Ok []) tokens ≡ Ok text
     → IsReadPath text
 from_none variables [] text some is = absurd (some refl)
-from_none variables (word ∷ words) text some is =
-    path_on_read variables (one_more_name (Ok []) (name variables word)) words text
-    (λ t there. one_more_read variables (Ok []) word t (λ u here. inl (sym (same_ok (List ℕ) Wrong [] u here))) there) is
+from_none variables (token ∷ tokens) text some is =
+    path_on_read variables (one_more_name (Ok []) (name variables token)) tokens text
+    (λ t there. one_more_read variables (Ok []) token t (λ u here. inl (sym (same_ok (List ℕ) Wrong [] u here))) there) is
 
 split_some : (p : ℕ → Bool) (xs : List ℕ) → slice_split p xs ≡ [] → ⊥
 split_some p xs none =
@@ -255,6 +255,6 @@ split_some p xs none =
     omega arith
 
 -- a path is of bases
-pub path_read : (variables : List Variable) (word text : List ℕ) → path variables word ≡ Ok text → IsReadPath text
+pub path_read : (variables : List Variable) (token text : List ℕ) → path variables token ≡ Ok text → IsReadPath text
 unfolding path
-path_read variables word text is = from_none variables (slice_split is_slash word) text (split_some is_slash word) is
+path_read variables token text is = from_none variables (slice_split is_slash token) text (split_some is_slash token) is

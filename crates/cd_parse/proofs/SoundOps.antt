@@ -7,11 +7,11 @@ use Rattle.cd_tree.specs.declared.document.Region.{Region}
 use Rattle.cd_tree.specs.declared.operation.Op.{Op}
 use Rattle.cd_tree.specs.declared.operation.Op.TheVariants.{Fill, Copy, Add, Sub, Mul, Axpy, Scan, Sum, Dot, Max, Stencil, Spmv}
 use Rattle.cd_tree.specs.Operations.{op_reads, op_writes, length_of, IsFull, FitsShape}
-use Rattle.cd_words.specs.declared.wrong.Wrong.{Wrong}
-use Rattle.cd_words.specs.declared.wrong.Wrong.TheVariants.{Form}
-use Rattle.cd_words.specs.declared.sums.Variable.{Variable}
-use Rattle.cd_words.specs.Wrongs.{both, ◌>>=◌}
-use Rattle.cd_words.specs.Sums.{expression}
+use Rattle.cd_tokens.specs.declared.wrong.Wrong.{Wrong}
+use Rattle.cd_tokens.specs.declared.wrong.Wrong.TheVariants.{Form}
+use Rattle.cd_tokens.specs.declared.sums.Variable.{Variable}
+use Rattle.cd_tokens.specs.Wrongs.{both, ◌>>=◌}
+use Rattle.cd_tokens.specs.Sums.{expression}
 use Rattle.cd_parse.specs.Ranges.{range_in}
 use Rattle.cd_parse.specs.Operations.{two_ranges, three_ranges, fill_in, axpy_in, weights, stencil_in, spmv_in, short_op, long_op, is_short, is_long, op_in, is_apart, is_in_step, are_apart, fits}
 use Rattle.cd_parse.proofs.SoundGuards.{Bound, bound, both_ok, same_ok, if_ok, if_else_err}
@@ -61,9 +61,9 @@ shape_of (Spmv d s c v x) is =
 abbrev pub OfRanges : (Range → Type 0) → Op → Type 0
 OfRanges P op = All P (op_writes op ∷ op_reads op)
 
--- each range that a word names has a property
+-- each range that a token names has a property
 abbrev Gives : (Range → Type 0) → List Variable → List Region → Type 0
-Gives P variables regions = (word : List ℕ) (r : Range) → range_in variables regions word ≡ Ok r → P r
+Gives P variables regions = (token : List ℕ) (r : Range) → range_in variables regions token ≡ Ok r → P r
 
 of_one : (P : Range → Type 0) (d : Range) → P d → All P (d ∷ [])
 of_one P d full = All-cons P d [] full (All-nil P)
@@ -92,8 +92,8 @@ pub record Makes (P : Range → Type 0) (Q : Op → Type 0) : Type 0 where
 of_same : (Q : Op → Type 0) (one op : Op) → Q one → ◌≡◌ {A = Result Op Wrong} (Ok one) (Ok op) → Q op
 of_same Q one op holds is = subst Q (same_ok Op Wrong one op is) holds
 
-two_all : (P : Range → Type 0) (variables : List Variable) (regions : List Region) (words : List (List ℕ)) (p : Range × Range) → Gives P variables regions
-    → two_ranges variables regions words ≡ Ok p → P p.0 × P p.1
+two_all : (P : Range → Type 0) (variables : List Variable) (regions : List Region) (tokens : List (List ℕ)) (p : Range × Range) → Gives P variables regions
+    → two_ranges variables regions tokens ≡ Ok p → P p.0 × P p.1
 unfolding two_ranges
 two_all P variables regions [] p some is = absurd (cc)
 two_all P variables regions (d ∷ []) p some is = absurd (cc)
@@ -102,8 +102,8 @@ two_all P variables regions (d ∷ x ∷ []) p some is =
     (some d p.0 parts.0, some x p.1 parts.1)
 two_all P variables regions (d ∷ x ∷ y ∷ more) p some is = absurd (cc)
 
-three_all : (P : Range → Type 0) (variables : List Variable) (regions : List Region) (words : List (List ℕ)) (p : Range × (Range × Range)) → Gives P variables regions
-    → three_ranges variables regions words ≡ Ok p → P p.0 × (P p.1.0 × P p.1.1)
+three_all : (P : Range → Type 0) (variables : List Variable) (regions : List Region) (tokens : List (List ℕ)) (p : Range × (Range × Range)) → Gives P variables regions
+    → three_ranges variables regions tokens ≡ Ok p → P p.0 × (P p.1.0 × P p.1.1)
 unfolding three_ranges
 three_all P variables regions [] p some is = absurd (cc)
 three_all P variables regions (d ∷ []) p some is = absurd (cc)
@@ -144,8 +144,8 @@ long_all P Q makes keyword d x z op has_d has_x has_z is =
       ]
     ]
 
-fill_all : (P : Range → Type 0) (Q : Op → Type 0) (makes : Makes P Q) (variables : List Variable) (regions : List Region) (words : List (List ℕ)) (op : Op) → Gives P variables regions
-    → fill_in variables regions words ≡ Ok op → Q op
+fill_all : (P : Range → Type 0) (Q : Op → Type 0) (makes : Makes P Q) (variables : List Variable) (regions : List Region) (tokens : List (List ℕ)) (op : Op) → Gives P variables regions
+    → fill_in variables regions tokens ≡ Ok op → Q op
 unfolding fill_in
 fill_all P Q makes variables regions [] op some is = absurd (cc)
 fill_all P Q makes variables regions (d ∷ []) op some is = absurd (cc)
@@ -156,8 +156,8 @@ fill_all P Q makes variables regions (d ∷ k ∷ []) op some is =
     of_same Q (Fill parts.value.0 parts.value.1) op (makes.fill parts.value.0 parts.value.1 (some d parts.value.0 both_parts.0) (expression_small variables k parts.value.1 both_parts.1)) parts.next
 fill_all P Q makes variables regions (d ∷ k ∷ y ∷ more) op some is = absurd (cc)
 
-axpy_all : (P : Range → Type 0) (Q : Op → Type 0) (makes : Makes P Q) (variables : List Variable) (regions : List Region) (words : List (List ℕ)) (op : Op) → Gives P variables regions
-    → axpy_in variables regions words ≡ Ok op → Q op
+axpy_all : (P : Range → Type 0) (Q : Op → Type 0) (makes : Makes P Q) (variables : List Variable) (regions : List Region) (tokens : List (List ℕ)) (op : Op) → Gives P variables regions
+    → axpy_in variables regions tokens ≡ Ok op → Q op
 unfolding axpy_in
 axpy_all P Q makes variables regions [] op some is = absurd (cc)
 axpy_all P Q makes variables regions (d ∷ []) op some is = absurd (cc)
@@ -183,8 +183,8 @@ weights_small variables a b c p is =
     let two = both_ok ℕ ℕ (expression variables b) (expression variables c) p.1 one.1 in
     (expression_small variables a p.0 one.0, (expression_small variables b p.1.0 two.0, expression_small variables c p.1.1 two.1))
 
-stencil_all : (P : Range → Type 0) (Q : Op → Type 0) (makes : Makes P Q) (variables : List Variable) (regions : List Region) (words : List (List ℕ)) (op : Op) → Gives P variables regions
-    → stencil_in variables regions words ≡ Ok op → Q op
+stencil_all : (P : Range → Type 0) (Q : Op → Type 0) (makes : Makes P Q) (variables : List Variable) (regions : List Region) (tokens : List (List ℕ)) (op : Op) → Gives P variables regions
+    → stencil_in variables regions tokens ≡ Ok op → Q op
 unfolding stencil_in
 stencil_all P Q makes variables regions [] op some is = absurd (cc)
 stencil_all P Q makes variables regions (d ∷ []) op some is = absurd (cc)
@@ -206,8 +206,8 @@ stencil_all P Q makes variables regions (d ∷ a ∷ b ∷ c ∷ x ∷ []) op so
     (makes.stencil v.0 v.1.0.0 v.1.0.1.0 v.1.0.1.1 v.1.1 (some d v.0 one.0) three.0 three.1.0 three.1.1 (some x v.1.1 two.1)) parts.next
 stencil_all P Q makes variables regions (d ∷ a ∷ b ∷ c ∷ x ∷ y ∷ more) op some is = absurd (cc)
 
-spmv_all : (P : Range → Type 0) (Q : Op → Type 0) (makes : Makes P Q) (variables : List Variable) (regions : List Region) (words : List (List ℕ)) (op : Op) → Gives P variables regions
-    → spmv_in variables regions words ≡ Ok op → Q op
+spmv_all : (P : Range → Type 0) (Q : Op → Type 0) (makes : Makes P Q) (variables : List Variable) (regions : List Region) (tokens : List (List ℕ)) (op : Op) → Gives P variables regions
+    → spmv_in variables regions tokens ≡ Ok op → Q op
 unfolding spmv_in
 spmv_all P Q makes variables regions [] op some is = absurd (cc)
 spmv_all P Q makes variables regions (d ∷ []) op some is = absurd (cc)
@@ -226,50 +226,50 @@ spmv_all P Q makes variables regions (d ∷ s ∷ more) op some is =
     of_same Q (Spmv v.0 v.1.0 v.1.1.0 v.1.1.1.0 v.1.1.1.1) op
     (makes.spmv v.0 v.1.0 v.1.1.0 v.1.1.1.0 v.1.1.1.1 (some d v.0 one.0) (some s v.1.0 two.0) three.0 three.1.0 three.1.1) parts.next
 
-short_words : (P : Range → Type 0) (Q : Op → Type 0) (makes : Makes P Q) (variables : List Variable) (regions : List Region) (keyword : List ℕ) (words : List (List ℕ)) (op : Op) → Gives P variables regions
-    → (two_ranges variables regions words >>= λ p. short_op keyword p.0 p.1) ≡ Ok op → Q op
-short_words P Q makes variables regions keyword words op some is =
-    let parts : Bound (Range × Range) Op Wrong (two_ranges variables regions words) (λ p. short_op keyword p.0 p.1) op =
-    bound (Range × Range) Op Wrong (two_ranges variables regions words) (λ p. short_op keyword p.0 p.1) op is in
-    let full = two_all P variables regions words parts.value some parts.is in
+short_tokens : (P : Range → Type 0) (Q : Op → Type 0) (makes : Makes P Q) (variables : List Variable) (regions : List Region) (keyword : List ℕ) (tokens : List (List ℕ)) (op : Op) → Gives P variables regions
+    → (two_ranges variables regions tokens >>= λ p. short_op keyword p.0 p.1) ≡ Ok op → Q op
+short_tokens P Q makes variables regions keyword tokens op some is =
+    let parts : Bound (Range × Range) Op Wrong (two_ranges variables regions tokens) (λ p. short_op keyword p.0 p.1) op =
+    bound (Range × Range) Op Wrong (two_ranges variables regions tokens) (λ p. short_op keyword p.0 p.1) op is in
+    let full = two_all P variables regions tokens parts.value some parts.is in
     short_all P Q makes keyword parts.value.0 parts.value.1 op full.0 full.1 parts.next
 
-long_words : (P : Range → Type 0) (Q : Op → Type 0) (makes : Makes P Q) (variables : List Variable) (regions : List Region) (keyword : List ℕ) (words : List (List ℕ)) (op : Op) → Gives P variables regions
-    → (three_ranges variables regions words >>= λ p. long_op keyword p.0 p.1.0 p.1.1) ≡ Ok op → Q op
-long_words P Q makes variables regions keyword words op some is =
-    let parts : Bound (Range × (Range × Range)) Op Wrong (three_ranges variables regions words) (λ p. long_op keyword p.0 p.1.0 p.1.1) op =
-    bound (Range × (Range × Range)) Op Wrong (three_ranges variables regions words) (λ p. long_op keyword p.0 p.1.0 p.1.1) op is in
-    let full = three_all P variables regions words parts.value some parts.is in
+long_tokens : (P : Range → Type 0) (Q : Op → Type 0) (makes : Makes P Q) (variables : List Variable) (regions : List Region) (keyword : List ℕ) (tokens : List (List ℕ)) (op : Op) → Gives P variables regions
+    → (three_ranges variables regions tokens >>= λ p. long_op keyword p.0 p.1.0 p.1.1) ≡ Ok op → Q op
+long_tokens P Q makes variables regions keyword tokens op some is =
+    let parts : Bound (Range × (Range × Range)) Op Wrong (three_ranges variables regions tokens) (λ p. long_op keyword p.0 p.1.0 p.1.1) op =
+    bound (Range × (Range × Range)) Op Wrong (three_ranges variables regions tokens) (λ p. long_op keyword p.0 p.1.0 p.1.1) op is in
+    let full = three_all P variables regions tokens parts.value some parts.is in
     long_all P Q makes keyword parts.value.0 parts.value.1.0 parts.value.1.1 op full.0 full.1.0 full.1.1 parts.next
 
 -- what holds of operations of such ranges and numbers holds of each operation of a document
-pub op_made : (P : Range → Type 0) (Q : Op → Type 0) (makes : Makes P Q) (variables : List Variable) (regions : List Region) (keyword : List ℕ) (words : List (List ℕ)) (op : Op) → Gives P variables regions
-    → op_in variables regions keyword words ≡ Ok op → Q op
+pub op_made : (P : Range → Type 0) (Q : Op → Type 0) (makes : Makes P Q) (variables : List Variable) (regions : List Region) (keyword : List ℕ) (tokens : List (List ℕ)) (op : Op) → Gives P variables regions
+    → op_in variables regions keyword tokens ≡ Ok op → Q op
 unfolding op_in
-op_made P Q makes variables regions keyword words op some is =
-    elim (if_ok Op Wrong (is_short keyword) (two_ranges variables regions words >>= λ p. short_op keyword p.0 p.1) _ op is) [
-      | inl short ↦ short_words P Q makes variables regions keyword words op some short.1
-      | inr other ↦ elim (if_ok Op Wrong (is_long keyword) (three_ranges variables regions words >>= λ p. long_op keyword p.0 p.1.0 p.1.1) _ op other.1) [
-        | inl long ↦ long_words P Q makes variables regions keyword words op some long.1
-        | inr next ↦ elim (if_ok Op Wrong (bytes_eq keyword (codes "fill")) (fill_in variables regions words) _ op next.1) [
-          | inl fill ↦ fill_all P Q makes variables regions words op some fill.1
-          | inr more ↦ elim (if_ok Op Wrong (bytes_eq keyword (codes "axpy")) (axpy_in variables regions words) _ op more.1) [
-            | inl axpy ↦ axpy_all P Q makes variables regions words op some axpy.1
-            | inr last ↦ elim (if_ok Op Wrong (bytes_eq keyword (codes "stencil")) (stencil_in variables regions words) _ op last.1) [
-              | inl stencil ↦ stencil_all P Q makes variables regions words op some stencil.1
+op_made P Q makes variables regions keyword tokens op some is =
+    elim (if_ok Op Wrong (is_short keyword) (two_ranges variables regions tokens >>= λ p. short_op keyword p.0 p.1) _ op is) [
+      | inl short ↦ short_tokens P Q makes variables regions keyword tokens op some short.1
+      | inr other ↦ elim (if_ok Op Wrong (is_long keyword) (three_ranges variables regions tokens >>= λ p. long_op keyword p.0 p.1.0 p.1.1) _ op other.1) [
+        | inl long ↦ long_tokens P Q makes variables regions keyword tokens op some long.1
+        | inr next ↦ elim (if_ok Op Wrong (bytes_eq keyword (codes "fill")) (fill_in variables regions tokens) _ op next.1) [
+          | inl fill ↦ fill_all P Q makes variables regions tokens op some fill.1
+          | inr more ↦ elim (if_ok Op Wrong (bytes_eq keyword (codes "axpy")) (axpy_in variables regions tokens) _ op more.1) [
+            | inl axpy ↦ axpy_all P Q makes variables regions tokens op some axpy.1
+            | inr last ↦ elim (if_ok Op Wrong (bytes_eq keyword (codes "stencil")) (stencil_in variables regions tokens) _ op last.1) [
+              | inl stencil ↦ stencil_all P Q makes variables regions tokens op some stencil.1
               | inr end ↦
-                  let spmv = if_else_err Op Wrong (bytes_eq keyword (codes "spmv")) (spmv_in variables regions words) Form op end.1 in
-                  spmv_all P Q makes variables regions words op some spmv.1
+                  let spmv = if_else_err Op Wrong (bytes_eq keyword (codes "spmv")) (spmv_in variables regions tokens) Form op end.1 in
+                  spmv_all P Q makes variables regions tokens op some spmv.1
             ]
           ]
         ]
       ]
     ]
 
--- what holds of each range that a word names holds of the ranges of an operation
-pub op_all : (P : Range → Type 0) (variables : List Variable) (regions : List Region) (keyword : List ℕ) (words : List (List ℕ)) (op : Op)
-    → Gives P variables regions → op_in variables regions keyword words ≡ Ok op → OfRanges P op
-op_all P variables regions keyword words op gives is =
+-- what holds of each range that a token names holds of the ranges of an operation
+pub op_all : (P : Range → Type 0) (variables : List Variable) (regions : List Region) (keyword : List ℕ) (tokens : List (List ℕ)) (op : Op)
+    → Gives P variables regions → op_in variables regions keyword tokens ≡ Ok op → OfRanges P op
+op_all P variables regions keyword tokens op gives is =
     let makes : Makes P (OfRanges P) =
     record {
       fill = λ d k p _. of_one P d p;
@@ -286,10 +286,10 @@ op_all P variables regions keyword words op gives is =
       spmv = λ d s c v x p q r t u.
           All-cons P d (s ∷ c ∷ v ∷ x ∷ []) p (All-cons P s (c ∷ v ∷ x ∷ []) q (of_three P c v x r t u));
     } in
-    op_made P (OfRanges P) makes variables regions keyword words op gives is
+    op_made P (OfRanges P) makes variables regions keyword tokens op gives is
 
 -- the ranges of an operation of a document have places
-pub op_full : (variables : List Variable) (regions : List Region) (keyword : List ℕ) (words : List (List ℕ)) (op : Op) → HavePlaces regions
-    → op_in variables regions keyword words ≡ Ok op → OfRanges IsFull op
-op_full variables regions keyword words op some is =
-    op_all IsFull variables regions keyword words op (λ word r. range_full variables regions word r some) is
+pub op_full : (variables : List Variable) (regions : List Region) (keyword : List ℕ) (tokens : List (List ℕ)) (op : Op) → HavePlaces regions
+    → op_in variables regions keyword tokens ≡ Ok op → OfRanges IsFull op
+op_full variables regions keyword tokens op some is =
+    op_all IsFull variables regions keyword tokens op (λ token r. range_full variables regions token r some) is

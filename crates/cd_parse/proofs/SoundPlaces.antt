@@ -7,12 +7,12 @@ use Rattle.cd_base.specs.declared.place.Place.{Place}
 use Rattle.cd_base.specs.declared.place.Range.{Range}
 use Rattle.cd_tree.specs.declared.document.Region.{Region}
 use Rattle.cd_tree.specs.Operations.{IsFull}
-use Rattle.cd_words.specs.declared.wrong.Wrong.{Wrong}
-use Rattle.cd_words.specs.declared.wrong.Wrong.TheVariants.{Outside}
-use Rattle.cd_words.specs.declared.sums.Variable.{Variable}
-use Rattle.cd_words.specs.Wrongs.{both}
-use Rattle.cd_words.specs.Sums.{expression, is_dot, bounds_at}
-use Rattle.cd_words.specs.Names.{name}
+use Rattle.cd_tokens.specs.declared.wrong.Wrong.{Wrong}
+use Rattle.cd_tokens.specs.declared.wrong.Wrong.TheVariants.{Outside}
+use Rattle.cd_tokens.specs.declared.sums.Variable.{Variable}
+use Rattle.cd_tokens.specs.Wrongs.{both}
+use Rattle.cd_tokens.specs.Sums.{expression, is_dot, bounds_at}
+use Rattle.cd_tokens.specs.Names.{name}
 use Rattle.cd_parse.specs.Ranges.{whole, region_from, region_named, region_in, some_words, one_place, one_word, is_opening, bracketed, index_in, part_at, part_in, range_at, range_in, place_at, place_in}
 use Rattle.cd_parse.specs.Sound.{IsRangeOf, IsPlaceOf}
 use Rattle.cd_parse.proofs.SoundGuards.{Bound, bound, both_ok, same_ok, if_ok, if_else_err}
@@ -52,12 +52,12 @@ region_whole at (region ∷ regions) name r some is =
           }
     ]
 
-region_in_whole : (variables : List Variable) (regions : List Region) (word : List ℕ) (r : Range) → HavePlaces regions
-    → region_in variables regions word ≡ Ok r → IsWhole regions 0 r
+region_in_whole : (variables : List Variable) (regions : List Region) (token : List ℕ) (r : Range) → HavePlaces regions
+    → region_in variables regions token ≡ Ok r → IsWhole regions 0 r
 unfolding region_in
-region_in_whole variables regions word r some is =
-    let found : Bound (List ℕ) Range Wrong (name variables word) (region_named regions) r =
-    bound (List ℕ) Range Wrong (name variables word) (region_named regions) r is in
+region_in_whole variables regions token r some is =
+    let found : Bound (List ℕ) Range Wrong (name variables token) (region_named regions) r =
+    bound (List ℕ) Range Wrong (name variables token) (region_named regions) r is in
     region_whole 0 regions found.value r some found.next
 
 -- a range is in a region of the list where the region with its number has all its words
@@ -142,29 +142,29 @@ part_in_known : (variables : List Variable) (regions : List Region) (region : Li
 part_in_known variables regions region None r some is = absurd (cc)
 part_in_known variables regions region (Some numbers) r some is = part_known variables regions region numbers (position is_dot numbers) r some is
 
-range_at_known : (variables : List Variable) (regions : List Region) (word : List ℕ) (at : Option ℕ) (r : Range) → HavePlaces regions
-    → range_at variables regions word at ≡ Ok r → IsRangeOf regions r
-range_at_known variables regions word None r some is = whole_known regions r (region_in_whole variables regions word r some is)
-range_at_known variables regions word (Some at) r some is =
-    part_in_known variables regions (take at word) (bracketed (drop (at + 1) word)) r some is
+range_at_known : (variables : List Variable) (regions : List Region) (token : List ℕ) (at : Option ℕ) (r : Range) → HavePlaces regions
+    → range_at variables regions token at ≡ Ok r → IsRangeOf regions r
+range_at_known variables regions token None r some is = whole_known regions r (region_in_whole variables regions token r some is)
+range_at_known variables regions token (Some at) r some is =
+    part_in_known variables regions (take at token) (bracketed (drop (at + 1) token)) r some is
 
--- a range that a word names lies in a region
-pub range_known : (variables : List Variable) (regions : List Region) (word : List ℕ) (r : Range) → HavePlaces regions
-    → range_in variables regions word ≡ Ok r → IsRangeOf regions r
+-- a range that a token names lies in a region
+pub range_known : (variables : List Variable) (regions : List Region) (token : List ℕ) (r : Range) → HavePlaces regions
+    → range_in variables regions token ≡ Ok r → IsRangeOf regions r
 unfolding range_in
-range_known variables regions word r some is = range_at_known variables regions word (position is_opening word) r some is
+range_known variables regions token r some is = range_at_known variables regions token (position is_opening token) r some is
 
-place_at_known : (variables : List Variable) (regions : List Region) (word : List ℕ) (at : Option ℕ) (p : Place) → HavePlaces regions
-    → place_at variables regions word at ≡ Ok p → IsPlaceOf regions p
-place_at_known variables regions word None p some is = absurd (cc)
-place_at_known variables regions word (Some at) p some is =
-    index_known variables regions (take at word) (bracketed (drop (at + 1) word)) p some is
+place_at_known : (variables : List Variable) (regions : List Region) (token : List ℕ) (at : Option ℕ) (p : Place) → HavePlaces regions
+    → place_at variables regions token at ≡ Ok p → IsPlaceOf regions p
+place_at_known variables regions token None p some is = absurd (cc)
+place_at_known variables regions token (Some at) p some is =
+    index_known variables regions (take at token) (bracketed (drop (at + 1) token)) p some is
 
--- a place that a word names lies in a region
-pub place_known : (variables : List Variable) (regions : List Region) (word : List ℕ) (p : Place) → HavePlaces regions
-    → place_in variables regions word ≡ Ok p → IsPlaceOf regions p
+-- a place that a token names lies in a region
+pub place_known : (variables : List Variable) (regions : List Region) (token : List ℕ) (p : Place) → HavePlaces regions
+    → place_in variables regions token ≡ Ok p → IsPlaceOf regions p
 unfolding place_in
-place_known variables regions word p some is = place_at_known variables regions word (position is_opening word) p some is
+place_known variables regions token p some is = place_at_known variables regions token (position is_opening token) p some is
 
 -- ---- a region that is there
 
@@ -178,13 +178,13 @@ pub have : (regions : List Region) (number : ℕ) (P : Region → Type 0) (found
 have regions number P None is known = absurd known
 have regions number P (Some region) is known = record { region = region; is = is; has = known }
 
--- a range that a word names has a place
-pub range_full : (variables : List Variable) (regions : List Region) (word : List ℕ) (r : Range) → HavePlaces regions
-    → range_in variables regions word ≡ Ok r → IsFull r
-range_full variables regions word r some is =
+-- a range that a token names has a place
+pub range_full : (variables : List Variable) (regions : List Region) (token : List ℕ) (r : Range) → HavePlaces regions
+    → range_in variables regions token ≡ Ok r → IsFull r
+range_full variables regions token r some is =
     let there : Have regions r.region (λ region. (r.low < r.high) × (r.high ≤ region.length)) =
     have regions r.region (λ region. (r.low < r.high) × (r.high ≤ region.length)) (slice_get regions r.region) refl
-    (range_known variables regions word r some is) in
+    (range_known variables regions token r some is) in
     there.has.0
 
 -- ---- a region more

@@ -4,13 +4,13 @@ use Rattle.std.proofs.lemmas.Bool.{and_parts, not-true}
 use Rattle.cd_base.specs.declared.pattern.Pattern.{Pattern}
 use Rattle.cd_tree.specs.declared.domain.NodeId.{NodeId}
 use Rattle.cd_tree.specs.declared.refusal.Which.TheVariants as which
-use Rattle.cd_words.specs.declared.wrong.Wrong.{Wrong}
-use Rattle.cd_words.specs.declared.wrong.Wrong.TheVariants.{Form, Taken, Unfit, Limit}
-use Rattle.cd_words.specs.declared.sums.Variable.{Variable}
-use Rattle.cd_words.specs.Wrongs.{both, guard, room, all_hold, ◌>>=◌}
-use Rattle.cd_words.specs.Sums.{expression}
-use Rattle.cd_words.specs.Names.{name}
-use Rattle.cd_words.specs.Kinds.{kind_set, pattern}
+use Rattle.cd_tokens.specs.declared.wrong.Wrong.{Wrong}
+use Rattle.cd_tokens.specs.declared.wrong.Wrong.TheVariants.{Form, Taken, Unfit, Limit}
+use Rattle.cd_tokens.specs.declared.sums.Variable.{Variable}
+use Rattle.cd_tokens.specs.Wrongs.{both, guard, room, all_hold, ◌>>=◌}
+use Rattle.cd_tokens.specs.Sums.{expression}
+use Rattle.cd_tokens.specs.Names.{name}
+use Rattle.cd_tokens.specs.Kinds.{kind_set, pattern}
 use Rattle.cd_parse.specs.declared.draft.Stage.TheVariants.{Kinds, Regions}
 use Rattle.cd_parse.specs.declared.draft.Level.{Level}
 use Rattle.cd_parse.specs.Draft.{DraftModel, is_start, takes_kinds, takes_regions, takes_domains, add_domain, parent_of, has_kind_named, has_region_named, has_child_named, kind_name, four_kinds}
@@ -57,7 +57,7 @@ begun_sound draft version next sound start is =
           sound_as (record draft { stage = Kinds; version = 2 }) next (second_is_sound draft sound start) second.1
     ]
 
-pub cd_keeps : (draft : DraftModel) (words : List (List ℕ)) (next : DraftModel) → IsSound draft → cd_in draft words ≡ Ok next → IsSound next
+pub cd_keeps : (draft : DraftModel) (tokens : List (List ℕ)) (next : DraftModel) → IsSound draft → cd_in draft tokens ≡ Ok next → IsSound next
 unfolding cd_in
 cd_keeps draft [] next sound is = absurd (cc)
 cd_keeps draft (version ∷ []) next sound is =
@@ -85,7 +85,7 @@ with_kind_keeps draft name halts next sound is =
     (kind_is_sound draft name halts sound stage.0 (not-true (has_kind_named draft.kinds name) (guard_ok _ Taken tt two.0))
     (room_ok which.Kinds 16 (length draft.kinds) tt four.0)) parts.is
 
-pub kind_keeps : (draft : DraftModel) (words : List (List ℕ)) (next : DraftModel) → IsSound draft → kind_in draft words ≡ Ok next → IsSound next
+pub kind_keeps : (draft : DraftModel) (tokens : List (List ℕ)) (next : DraftModel) → IsSound draft → kind_in draft tokens ≡ Ok next → IsSound next
 unfolding kind_in
 kind_keeps draft [] next sound is = absurd (cc)
 kind_keeps draft (name ∷ []) next sound is = with_kind_keeps draft name false next sound is
@@ -117,14 +117,14 @@ with_region_keeps draft name size pattern next sound stage is =
     (room_ok which.Regions 64 (length draft.regions) tt four.0)
     (leb-true (draft.words + size) 1048576 (guard_ok (nat_le (draft.words + size) 1048576) _ tt five.0))) parts.is
 
-pub region_keeps : (variables : List Variable) (draft : DraftModel) (words : List (List ℕ)) (next : DraftModel) → IsSound draft
-    → region_statement variables draft words ≡ Ok next → IsSound next
+pub region_keeps : (variables : List Variable) (draft : DraftModel) (tokens : List (List ℕ)) (next : DraftModel) → IsSound draft
+    → region_statement variables draft tokens ≡ Ok next → IsSound next
 unfolding region_statement
 region_keeps variables draft [] next sound is = absurd (cc)
-region_keeps variables draft (word ∷ []) next sound is = absurd (cc)
-region_keeps variables draft (word ∷ size ∷ more) next sound is =
+region_keeps variables draft (token ∷ []) next sound is = absurd (cc)
+region_keeps variables draft (token ∷ size ∷ more) next sound is =
     let stage : Result (Unit {0}) Wrong = guard (takes_regions draft.stage) Form in
-    let rest : Result (List ℕ × (ℕ × Pattern)) Wrong = both (name variables word) (both (expression variables size) (pattern variables more)) in
+    let rest : Result (List ℕ × (ℕ × Pattern)) Wrong = both (name variables token) (both (expression variables size) (pattern variables more)) in
     let parts : Bound (Unit {0} × (List ℕ × (ℕ × Pattern))) DraftModel Wrong (both stage rest) (λ p. with_region draft p.1.0 p.1.1.0 p.1.1.1) next =
     bound (Unit {0} × (List ℕ × (ℕ × Pattern))) DraftModel Wrong (both stage rest) (λ p. with_region draft p.1.0 p.1.1.0 p.1.1.1) next is in
     let v : Unit {0} × (List ℕ × (ℕ × Pattern)) = parts.value in
@@ -184,24 +184,24 @@ with_domain_keeps draft name tries set next sound takes no_path known is =
     } in
     sound_as made next (begun_in draft draft.levels name tries set sound takes begins (room_ok which.Depth 16 (length draft.levels) tt four.0) five.0) parts.is
 
-pub domain_keeps : (variables : List Variable) (draft : DraftModel) (words : List (List ℕ)) (next : DraftModel) → IsSound draft
-    → domain_in variables draft words ≡ Ok next → IsSound next
+pub domain_keeps : (variables : List Variable) (draft : DraftModel) (tokens : List (List ℕ)) (next : DraftModel) → IsSound draft
+    → domain_in variables draft tokens ≡ Ok next → IsSound next
 unfolding domain_in
 domain_keeps variables draft [] next sound is = absurd (cc)
-domain_keeps variables draft (word ∷ []) next sound is = absurd (cc)
-domain_keeps variables draft (word ∷ retry ∷ []) next sound is = absurd (cc)
-domain_keeps variables draft (word ∷ retry ∷ tries ∷ []) next sound is = absurd (cc)
-domain_keeps variables draft (word ∷ retry ∷ tries ∷ detects ∷ []) next sound is = absurd (cc)
-domain_keeps variables draft (word ∷ retry ∷ tries ∷ detects ∷ kinds ∷ []) next sound is =
+domain_keeps variables draft (token ∷ []) next sound is = absurd (cc)
+domain_keeps variables draft (token ∷ retry ∷ []) next sound is = absurd (cc)
+domain_keeps variables draft (token ∷ retry ∷ tries ∷ []) next sound is = absurd (cc)
+domain_keeps variables draft (token ∷ retry ∷ tries ∷ detects ∷ []) next sound is = absurd (cc)
+domain_keeps variables draft (token ∷ retry ∷ tries ∷ detects ∷ kinds ∷ []) next sound is =
     let test : Bool = takes_domains draft draft.levels && (bytes_eq retry (codes "retry") && bytes_eq detects (codes "detects")) in
-    let rest : Result (List ℕ × (ℕ × ℕ)) Wrong = both (name variables word) (both (expression variables tries) (kind_set draft.kinds kinds)) in
+    let rest : Result (List ℕ × (ℕ × ℕ)) Wrong = both (name variables token) (both (expression variables tries) (kind_set draft.kinds kinds)) in
     let parts : Bound (Unit {0} × (List ℕ × (ℕ × ℕ))) DraftModel Wrong (both (guard test Form) rest) (λ p. with_domain draft p.1.0 p.1.1.0 p.1.1.1) next =
     bound (Unit {0} × (List ℕ × (ℕ × ℕ))) DraftModel Wrong (both (guard test Form) rest) (λ p. with_domain draft p.1.0 p.1.1.0 p.1.1.1) next is in
     let v : Unit {0} × (List ℕ × (ℕ × ℕ)) = parts.value in
     let one = both_ok (Unit {0}) (List ℕ × (ℕ × ℕ)) (guard test Form) rest v parts.is in
-    let two = both_ok (List ℕ) (ℕ × ℕ) (name variables word) (both (expression variables tries) (kind_set draft.kinds kinds)) v.1 one.1 in
+    let two = both_ok (List ℕ) (ℕ × ℕ) (name variables token) (both (expression variables tries) (kind_set draft.kinds kinds)) v.1 one.1 in
     let three = both_ok ℕ ℕ (expression variables tries) (kind_set draft.kinds kinds) v.1.1 two.1 in
     let takes = and_parts (takes_domains draft draft.levels) (bytes_eq retry (codes "retry") && bytes_eq detects (codes "detects")) (guard_ok test Form v.0 one.0) in
-    with_domain_keeps draft v.1.0 v.1.1.0 v.1.1.1 next sound takes.0 (name_is_no_path variables word v.1.0 two.0)
+    with_domain_keeps draft v.1.0 v.1.1.0 v.1.1.1 next sound takes.0 (name_is_no_path variables token v.1.0 two.0)
     (kind_set_known draft.kinds kinds v.1.1.1 three.1) parts.next
-domain_keeps variables draft (word ∷ retry ∷ tries ∷ detects ∷ kinds ∷ other ∷ more) next sound is = absurd (cc)
+domain_keeps variables draft (token ∷ retry ∷ tries ∷ detects ∷ kinds ∷ other ∷ more) next sound is = absurd (cc)

@@ -14,10 +14,10 @@ use Rattle.cd_tree.specs.declared.kinds.KindName.{KindName}
 use Rattle.cd_tree.specs.declared.operation.Op.{Op}
 use Rattle.cd_tree.specs.declared.operation.Op.TheVariants.{Fill, Copy, Add, Sub, Mul, Axpy, Scan, Sum, Dot, Max, Stencil, Spmv}
 use Rattle.cd_tree.specs.Operations.{op_reads, op_writes}
-use Rattle.cd_words.specs.Sums.{is_base}
+use Rattle.cd_tokens.specs.Sums.{is_base}
 use Rattle.cd_parse.specs.Draft.{DraftModel, no_draft, document_of, has_region_named}
 use Rattle.cd_parse.specs.Operations.{fits}
-use Rattle.cd_parse.specs.Reading.{parse}
+use Rattle.cd_parse.specs.Parsing.{parse}
 use Rattle.cd_parse.specs.Sound.{IsRangeOf, IsPlaceOf, IsItemOf, IsDomainOf, IsFaultOf, IsSound}
 use Rattle.cd_parse.specs.WellRead.{IsFound, IsReadRange, IsReadPlace, IsReadOp, AreReadRegions, AreReadEntries, AreReadItems, IsReadDomain, AreReadDomains, IsFoundKind, IsReadFault, AreReadFaults, WellRead}
 use Rattle.cd_parse.proofs.SoundChanges.{no_draft_is_sound, counted_is_sound}
@@ -25,10 +25,10 @@ use Rattle.cd_parse.proofs.SoundBodies.{statement_keeps_sound}
 use Rattle.cd_parse.proofs.SoundKeeps.{IsKept, Draws, parsed_draws}
 use Rattle.cd_parse.proofs.SoundPlaces.{Have, have}
 use Rattle.cd_parse.proofs.SoundNamed.{Named, no_draft_is_named}
-use Rattle.cd_parse.proofs.SoundNamedWords.{statement_keeps_named}
+use Rattle.cd_parse.proofs.SoundNamedStatements.{statement_keeps_named}
 use Rattle.cd_parse.proofs.SoundTold.{OpText, ItemText, EntryText, DomainText, FaultText, Told, no_draft_is_told, fits_end}
-use Rattle.cd_parse.proofs.SoundToldWords.{statement_keeps_told}
-use Rattle.cd_parse.proofs.SoundReading.{sound_is_tree}
+use Rattle.cd_parse.proofs.SoundToldStatements.{statement_keeps_told}
+use Rattle.cd_parse.proofs.SoundParsing.{sound_is_tree}
 
 -- ---- regions
 
@@ -194,7 +194,7 @@ faults_read regions kinds read (fault ∷ faults) known text = (
 
 -- ---- the whole document
 
--- all that reading keeps
+-- all that parsing keeps
 pub record Keeping (draft : DraftModel) : Type 0 where
   pub sound : IsSound draft
   pub named : Named draft
@@ -216,11 +216,11 @@ keeping_is_kept =
               faults = is.told.faults;
             };
           };
-      statement = λ variables words draft next is made.
+      statement = λ variables tokens draft next is made.
           record {
-            sound = statement_keeps_sound variables words draft next is.sound made;
-            named = statement_keeps_named variables words draft next is.named made;
-            told = statement_keeps_told variables words draft next is.sound is.told made;
+            sound = statement_keeps_sound variables tokens draft next is.sound made;
+            named = statement_keeps_named variables tokens draft next is.named made;
+            told = statement_keeps_told variables tokens draft next is.sound is.told made;
           };
     }
 

@@ -1,20 +1,20 @@
--- Reading from a line on: a statement, a loop, the end of a block; and the turns of a loop.
+-- Parsing from a line on: a statement, a loop, the end of a block; and the turns of a loop.
 use Rattle.std.proofs.Common.{◌≡◌, ℕ, suc, ◌+◌, ◌-◌, ◌<◌, ◌≤◌, List, ◌∷◌, length, drop, get_or, refl, sym, ap, ◌∙◌, subst, arith, drop-cons, add-one}
 use Rattle.std.specs.Prelude.{Result, Ok}
 use Rattle.std.proofs.lemmas.List.{drop_all}
 use Rattle.cd_tree.specs.declared.refusal.Refusal.{Refusal}
 use Rattle.cd_tree.specs.declared.refusal.Refuse.{Refuse}
 use Rattle.cd_tree.specs.declared.refusal.Refuse.TheVariants as refuse
-use Rattle.cd_words.specs.declared.lines.Role.{Role}
-use Rattle.cd_words.specs.declared.lines.Role.TheVariants.{Says, Opens, Closes}
-use Rattle.cd_words.specs.declared.lines.Line.{Line}
-use Rattle.cd_words.specs.declared.sums.Variable.{Variable}
-use Rattle.cd_words.specs.Wrongs.{◌>>=◌}
-use Rattle.cd_words.specs.Steps.{Refuses}
-use Rattle.cd_words.specs.Blocks.{Block, here, put, blocks}
-use Rattle.cd_words.specs.Layouts.{Goes}
+use Rattle.cd_tokens.specs.declared.lines.Role.{Role}
+use Rattle.cd_tokens.specs.declared.lines.Role.TheVariants.{Says, Opens, Closes}
+use Rattle.cd_tokens.specs.declared.lines.Line.{Line}
+use Rattle.cd_tokens.specs.declared.sums.Variable.{Variable}
+use Rattle.cd_tokens.specs.Wrongs.{◌>>=◌}
+use Rattle.cd_tokens.specs.Steps.{Refuses}
+use Rattle.cd_tokens.specs.Blocks.{Block, here, put, blocks}
+use Rattle.cd_tokens.specs.Layouts.{Goes}
 use Rattle.cd_parse.specs.Draft.{DraftModel}
-use Rattle.cd_parse.specs.Reading.{taken, looped, turns, read}
+use Rattle.cd_parse.specs.Parsing.{taken, looped, turns, read}
 use Rattle.cd_parse.specs.Turns.{read_from, turn_from}
 
 made : (step : Result DraftModel Refusal) (go : DraftModel → Result DraftModel Refusal) (next : DraftModel) → step ≡ Ok next → (step >>= go) ≡ go next

@@ -1,13 +1,13 @@
 -- To read is to take the steps that a block stands for, one by one: by induction on the block, and on the turns of a loop.
 use Rattle.std.proofs.Common.{◌≡◌, ℕ, zero, suc, ◌+◌, ◌-◌, List, [], ◌∷◌, ◌++◌, Result, Ok, Err, length, refl, sym, ◌∙◌}
 use Rattle.cd_tree.specs.declared.refusal.Refusal.{Refusal}
-use Rattle.cd_words.specs.declared.lines.Line.{Line}
-use Rattle.cd_words.specs.declared.sums.Variable.{Variable}
-use Rattle.cd_words.specs.Wrongs.{at_line, ◌>>=◌}
-use Rattle.cd_words.specs.Lines.{lines}
-use Rattle.cd_words.specs.Blocks.{marked_lines, Block, stop, says, repeats, here, blocks}
+use Rattle.cd_tokens.specs.declared.lines.Line.{Line}
+use Rattle.cd_tokens.specs.declared.sums.Variable.{Variable}
+use Rattle.cd_tokens.specs.Wrongs.{at_line, ◌>>=◌}
+use Rattle.cd_tokens.specs.Lines.{lines}
+use Rattle.cd_tokens.specs.Blocks.{marked_lines, Block, stop, says, repeats, here, blocks}
 use Rattle.cd_parse.specs.Draft.{DraftModel, no_draft, document_of}
-use Rattle.cd_parse.specs.Reading.{counted, taken, Loop, loop_in, variable_of, turns, all_turns, looped, read, ended, parse}
+use Rattle.cd_parse.specs.Parsing.{counted, taken, Loop, loop_in, variable_of, turns, all_turns, looped, read, ended, parse}
 use Rattle.cd_parse.specs.Unrolled.{Step, turn_steps, loop_steps, steps, step_taken, in_order, text_steps, document_by}
 
 -- ---- one thing behind another
@@ -60,9 +60,9 @@ loop_in_order body all is variables (Err refusal) draft = refl
 
 looped_in_order : (body : List Variable → DraftModel → Result DraftModel Refusal) (all : List Variable → List Step) → Takes body all
     → (variables : List Variable) (line : Line) (draft : DraftModel)
-    → looped body variables line draft ≡ in_order (loop_steps all variables (at_line line.number (loop_in variables line.words))) draft
+    → looped body variables line draft ≡ in_order (loop_steps all variables (at_line line.number (loop_in variables line.tokens))) draft
 unfolding looped
-looped_in_order body all is variables line draft = loop_in_order body all is variables (at_line line.number (loop_in variables line.words)) draft
+looped_in_order body all is variables line draft = loop_in_order body all is variables (at_line line.number (loop_in variables line.tokens)) draft
 
 -- ---- blocks
 
@@ -72,7 +72,7 @@ read_in_order stop variables draft = refl
 read_in_order (says line rest) variables draft =
     alike (taken variables line draft) (read rest variables) (in_order (steps rest variables)) (read_in_order rest variables)
 read_in_order (repeats line body rest) variables draft =
-    sym (behind_body (looped (read body) variables line draft) (loop_steps (steps body) variables (at_line line.number (loop_in variables line.words)))
+    sym (behind_body (looped (read body) variables line draft) (loop_steps (steps body) variables (at_line line.number (loop_in variables line.tokens)))
     (steps rest variables) (read rest variables) draft (looped_in_order (read body) (steps body) (read_in_order body) variables line draft)
     (read_in_order rest variables))
 

@@ -8,18 +8,18 @@ use Rattle.cd_tree.specs.declared.domain.Item.TheVariants.{Run}
 use Rattle.cd_tree.specs.declared.operation.Op.TheVariants.{Fill}
 use Rattle.cd_tree.specs.declared.refusal.Refusal.TheVariants.{Line, NameTaken, Arithmetic, Limit}
 use Rattle.cd_tree.specs.declared.refusal.Which.TheVariants as which
-use Rattle.cd_words.specs.declared.wrong.Wrong.TheVariants as wrong
-use Rattle.cd_words.specs.Blocks.{marked_lines}
-use Rattle.cd_words.specs.Sums.{atom, times, term, plus, expression, bounds}
-use Rattle.cd_words.specs.Names.{name, path}
-use Rattle.cd_words.specs.Kinds.{kind, kind_set, pattern}
+use Rattle.cd_tokens.specs.declared.wrong.Wrong.TheVariants as wrong
+use Rattle.cd_tokens.specs.Blocks.{marked_lines}
+use Rattle.cd_tokens.specs.Sums.{atom, times, term, plus, expression, bounds}
+use Rattle.cd_tokens.specs.Names.{name, path}
+use Rattle.cd_tokens.specs.Kinds.{kind, kind_set, pattern}
 use Rattle.cd_parse.specs.declared.draft.Stage.TheVariants.{Kinds, Root}
 use Rattle.cd_parse.specs.Draft.{DraftModel, no_draft, level_of, kind_name}
 use Rattle.cd_parse.specs.Ranges.{region_in, range_in, place_in}
 use Rattle.cd_parse.specs.Operations.{fill_in, op_in}
 use Rattle.cd_parse.specs.Heads.{cd_in, with_kind_named, kind_in, with_region, region_statement, with_domain, domain_in, with_entry_of, how_in, preserve_in, group_in, end_in, faults_in, time_in, damage_in, strike_in}
 use Rattle.cd_parse.specs.Statements.{with_op, operation_in, statement, statement_in}
-use Rattle.cd_parse.specs.Reading.{taken, loop_in, looped, read, parse}
+use Rattle.cd_parse.specs.Parsing.{taken, loop_in, looped, read, parse}
 use Rattle.cd_parse.proofs.WorkedTexts.{part, copied, region, domain, number, first_version, with_fifth, with_more}
 
 abbrev filled : Document

@@ -3,11 +3,11 @@ use Rattle.std.proofs.Common.{◌≡◌, refl}
 use Rattle.std.specs.Prelude.{Err, codes}
 use Rattle.cd_tree.specs.declared.refusal.Refusal.TheVariants.{Limit, Arithmetic}
 use Rattle.cd_tree.specs.declared.refusal.Which.TheVariants.{Lines}
-use Rattle.cd_words.specs.Blocks.{marked_lines}
-use Rattle.cd_words.specs.Sums.{atom, times, term, plus, expression, bounds}
+use Rattle.cd_tokens.specs.Blocks.{marked_lines}
+use Rattle.cd_tokens.specs.Sums.{atom, times, term, plus, expression, bounds}
 use Rattle.cd_parse.specs.Heads.{cd_in}
 use Rattle.cd_parse.specs.Statements.{statement, statement_in}
-use Rattle.cd_parse.specs.Reading.{taken, loop_in, looped, read, parse}
+use Rattle.cd_parse.specs.Parsing.{taken, loop_in, looped, read, parse}
 
 -- each turn counts one: of an empty loop the 65,536th is the first that has no room, behind one statement
 turns_count : parse (codes "cd 1\nfor a in 0..70000\nend\n") ≡ Err (Limit Lines 65537)

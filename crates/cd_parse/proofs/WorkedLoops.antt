@@ -6,15 +6,15 @@ use Rattle.cd_base.specs.declared.pattern.Pattern.TheVariants.{Const}
 use Rattle.cd_tree.specs.declared.domain.Item.TheVariants.{Run, Group}
 use Rattle.cd_tree.specs.declared.operation.Op.TheVariants.{Fill}
 use Rattle.cd_tree.specs.declared.refusal.Refusal.TheVariants.{Line}
-use Rattle.cd_words.specs.Blocks.{marked_lines}
-use Rattle.cd_words.specs.Sums.{atom, times, term, plus, expression, bounds}
-use Rattle.cd_words.specs.Names.{name}
-use Rattle.cd_words.specs.Kinds.{kind, kind_set, pattern}
+use Rattle.cd_tokens.specs.Blocks.{marked_lines}
+use Rattle.cd_tokens.specs.Sums.{atom, times, term, plus, expression, bounds}
+use Rattle.cd_tokens.specs.Names.{name}
+use Rattle.cd_tokens.specs.Kinds.{kind, kind_set, pattern}
 use Rattle.cd_parse.specs.Ranges.{region_in, range_in}
 use Rattle.cd_parse.specs.Operations.{fill_in, op_in}
 use Rattle.cd_parse.specs.Heads.{cd_in, with_region, region_statement, with_domain, domain_in, with_entry_of, how_in, preserve_in, group_in, end_in}
 use Rattle.cd_parse.specs.Statements.{with_op, operation_in, statement, statement_in}
-use Rattle.cd_parse.specs.Reading.{taken, loop_in, looped, read, parse}
+use Rattle.cd_parse.specs.Parsing.{taken, loop_in, looped, read, parse}
 use Rattle.cd_parse.proofs.WorkedTexts.{part, copied, region, domain, number, first_version, with_fifth}
 
 -- loops inside each other, with names and ranges that are computed

@@ -1,4 +1,4 @@
--- What each statement but the operations adds to the draft, by the words behind its first.
+-- What each statement but the operations adds to the draft, by the tokens after its keyword.
 use Rattle.std.specs.Prelude.{ℕ, ◌+◌, ◌-◌, ◌^◌, min, Bool, true, false, ◌&&◌, not, nat_lt, nat_le, List, [], ◌∷◌, ◌++◌, length, slice_get, Option, None, Some, Result, Ok, Err, codes, if◌then◌else◌}
 use Rattle.std.specs.Str.{bytes_eq}
 use Rattle.cd_base.specs.declared.place.Place.{Place}
@@ -14,13 +14,13 @@ use Rattle.cd_tree.specs.declared.domain.How.TheVariants as how
 use Rattle.cd_tree.specs.declared.domain.Domain.{Domain}
 use Rattle.cd_tree.specs.declared.kinds.Kind.{Kind}
 use Rattle.cd_tree.specs.declared.refusal.Which.TheVariants as which
-use Rattle.cd_words.specs.declared.wrong.Wrong.{Wrong}
-use Rattle.cd_words.specs.declared.wrong.Wrong.TheVariants.{Form, Taken, Unfit, Limit}
-use Rattle.cd_words.specs.declared.sums.Variable.{Variable}
-use Rattle.cd_words.specs.Wrongs.{both, guard, room, all_hold, ◌>>=◌}
-use Rattle.cd_words.specs.Sums.{is_base, expression}
-use Rattle.cd_words.specs.Names.{name, path}
-use Rattle.cd_words.specs.Kinds.{kind, kind_set, pattern}
+use Rattle.cd_tokens.specs.declared.wrong.Wrong.{Wrong}
+use Rattle.cd_tokens.specs.declared.wrong.Wrong.TheVariants.{Form, Taken, Unfit, Limit}
+use Rattle.cd_tokens.specs.declared.sums.Variable.{Variable}
+use Rattle.cd_tokens.specs.Wrongs.{both, guard, room, all_hold, ◌>>=◌}
+use Rattle.cd_tokens.specs.Sums.{is_base, expression}
+use Rattle.cd_tokens.specs.Names.{name, path}
+use Rattle.cd_tokens.specs.Kinds.{kind, kind_set, pattern}
 use Rattle.cd_parse.specs.declared.draft.Stage.TheVariants.{Kinds, Regions, Strikes}
 use Rattle.cd_parse.specs.declared.draft.Level.{Level}
 use Rattle.cd_parse.specs.Draft.{DraftModel, is_start, takes_kinds, takes_regions, takes_items, takes_entries, takes_domains, is_closed, takes_strikes, add_entry, add_domain, open_group, close_group, close_domain, innermost, parent_of, has_kind_named, has_region_named, has_child_named, kind_name, four_kinds}
@@ -90,8 +90,8 @@ regioned draft stage name size pattern =
 
 -- region NAME E PATTERN
 unfoldable pub region_statement : List Variable → DraftModel → List (List ℕ) → Result DraftModel Wrong
-region_statement variables draft (word ∷ size ∷ more) =
-    regioned draft (guard (takes_regions draft.stage) Form) (name variables word) (expression variables size) (pattern variables more)
+region_statement variables draft (token ∷ size ∷ more) =
+    regioned draft (guard (takes_regions draft.stage) Form) (name variables token) (expression variables size) (pattern variables more)
 region_statement variables draft _ = Err Form
 
 -- ---- domain
@@ -134,8 +134,8 @@ domained draft form name tries kinds =
 
 -- domain NAME retry E detects KINDS
 unfoldable pub domain_in : List Variable → DraftModel → List (List ℕ) → Result DraftModel Wrong
-domain_in variables draft (word ∷ retry ∷ tries ∷ detects ∷ kinds ∷ []) =
-    domained draft (guard (has_domain_form draft retry detects) Form) (name variables word) (expression variables tries)
+domain_in variables draft (token ∷ retry ∷ tries ∷ detects ∷ kinds ∷ []) =
+    domained draft (guard (has_domain_form draft retry detects) Form) (name variables token) (expression variables tries)
     (kind_set draft.kinds kinds)
 domain_in variables draft _ = Err Form
 
@@ -158,19 +158,19 @@ with_entry_of draft range how =
 
 -- copy, refer
 abbrev pub short_how : List ℕ → Result How Wrong
-short_how word =
-    if bytes_eq word (codes "copy") then Ok how.Copy else (if bytes_eq word (codes "refer") then Ok how.Refer else Err Form)
+short_how token =
+    if bytes_eq token (codes "copy") then Ok how.Copy else (if bytes_eq token (codes "refer") then Ok how.Refer else Err Form)
 
 -- regen PATTERN
 abbrev pub long_how : List Variable → List ℕ → List (List ℕ) → Result How Wrong
-long_how variables word more =
-    if bytes_eq word (codes "regen") then (pattern variables more >>= λ p. Ok (how.Regen p)) else Err Form
+long_how variables token more =
+    if bytes_eq token (codes "regen") then (pattern variables more >>= λ p. Ok (how.Regen p)) else Err Form
 
 -- copy, refer, regen PATTERN
 unfoldable pub how_in : List Variable → List (List ℕ) → Result How Wrong
 how_in variables [] = Err Form
-how_in variables (word ∷ []) = short_how word
-how_in variables (word ∷ more) = long_how variables word more
+how_in variables (token ∷ []) = short_how token
+how_in variables (token ∷ more) = long_how variables token more
 
 -- preserve RANGE copy, preserve RANGE refer, preserve RANGE regen PATTERN
 unfoldable pub preserve_in : List Variable → DraftModel → List (List ℕ) → Result DraftModel Wrong
@@ -224,8 +224,8 @@ time_in variables begin point = both (expression variables begin) (expression va
 
 -- kind, place and mask
 unfoldable pub damage_in : List Variable → DraftModel → List ℕ → List ℕ → List ℕ → Result (Kind × (Place × ℕ)) Wrong
-damage_in variables draft word place mask =
-    both (kind draft.kinds word) (both (place_in variables draft.regions place) (expression variables mask))
+damage_in variables draft token place mask =
+    both (kind draft.kinds token) (both (place_in variables draft.regions place) (expression variables mask))
 
 abbrev pub struck : DraftModel → Result (Unit {0}) Wrong → Result (List ℕ) Wrong → Result (ℕ × ℕ) Wrong → Result (Kind × (Place × ℕ)) Wrong → Result DraftModel Wrong
 struck draft stage path time damage =

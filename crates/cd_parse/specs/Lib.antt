@@ -5,7 +5,7 @@ pub mod Ranges
 pub mod Heads
 pub mod Operations
 pub mod Statements
-pub mod Reading
+pub mod Parsing
 pub mod Turns
 pub mod Unrolled
 pub mod WellRead

@@ -1,4 +1,4 @@
--- Operations: their parts by the words behind their names, and which lengths and ranges fit.
+-- Operations: their parts by the tokens after their names, and which lengths and ranges fit.
 use Rattle.std.specs.Prelude.{ℕ, ◌+◌, Bool, true, ◌&&◌, ◌||◌, not, nat_le, ◌==◌, List, [], ◌∷◌, Result, Ok, Err, codes, if◌then◌else◌}
 use Rattle.std.specs.Str.{bytes_eq}
 use Rattle.cd_base.specs.declared.place.Range.{Range}
@@ -6,11 +6,11 @@ use Rattle.cd_tree.specs.declared.document.Region.{Region}
 use Rattle.cd_tree.specs.declared.operation.Op.{Op}
 use Rattle.cd_tree.specs.declared.operation.Op.TheVariants.{Fill, Copy, Add, Sub, Mul, Axpy, Scan, Sum, Dot, Max, Stencil, Spmv}
 use Rattle.cd_tree.specs.Operations.{length_of}
-use Rattle.cd_words.specs.declared.wrong.Wrong.{Wrong}
-use Rattle.cd_words.specs.declared.wrong.Wrong.TheVariants.{Form}
-use Rattle.cd_words.specs.declared.sums.Variable.{Variable}
-use Rattle.cd_words.specs.Wrongs.{both, ◌>>=◌}
-use Rattle.cd_words.specs.Sums.{expression}
+use Rattle.cd_tokens.specs.declared.wrong.Wrong.{Wrong}
+use Rattle.cd_tokens.specs.declared.wrong.Wrong.TheVariants.{Form}
+use Rattle.cd_tokens.specs.declared.sums.Variable.{Variable}
+use Rattle.cd_tokens.specs.Wrongs.{both, ◌>>=◌}
+use Rattle.cd_tokens.specs.Sums.{expression}
 use Rattle.cd_parse.specs.Ranges.{range_in}
 
 -- ---- what stands behind an operation's name
@@ -83,15 +83,15 @@ abbrev pub is_long : List ℕ → Bool
 is_long keyword =
     bytes_eq keyword (codes "add") || (bytes_eq keyword (codes "sub") || (bytes_eq keyword (codes "mul") || bytes_eq keyword (codes "dot")))
 
--- the operation of this name and these words
+-- the operation of this name and these tokens
 unfoldable pub op_in : List Variable → List Region → List ℕ → List (List ℕ) → Result Op Wrong
-op_in variables regions keyword words =
-    if is_short keyword then (two_ranges variables regions words >>= λ p. short_op keyword p.0 p.1)
-    else (if is_long keyword then (three_ranges variables regions words >>= λ p. long_op keyword p.0 p.1.0 p.1.1)
-    else (if bytes_eq keyword (codes "fill") then fill_in variables regions words
-    else (if bytes_eq keyword (codes "axpy") then axpy_in variables regions words
-    else (if bytes_eq keyword (codes "stencil") then stencil_in variables regions words
-    else (if bytes_eq keyword (codes "spmv") then spmv_in variables regions words
+op_in variables regions keyword tokens =
+    if is_short keyword then (two_ranges variables regions tokens >>= λ p. short_op keyword p.0 p.1)
+    else (if is_long keyword then (three_ranges variables regions tokens >>= λ p. long_op keyword p.0 p.1.0 p.1.1)
+    else (if bytes_eq keyword (codes "fill") then fill_in variables regions tokens
+    else (if bytes_eq keyword (codes "axpy") then axpy_in variables regions tokens
+    else (if bytes_eq keyword (codes "stencil") then stencil_in variables regions tokens
+    else (if bytes_eq keyword (codes "spmv") then spmv_in variables regions tokens
     else Err Form)))))
 
 -- ---- lengths and ranges

@@ -4,12 +4,12 @@ use Rattle.std.specs.Str.{bytes_eq}
 use Rattle.cd_base.specs.declared.place.Place.{Place}
 use Rattle.cd_base.specs.declared.place.Range.{Range}
 use Rattle.cd_tree.specs.declared.document.Region.{Region}
-use Rattle.cd_words.specs.declared.wrong.Wrong.{Wrong}
-use Rattle.cd_words.specs.declared.wrong.Wrong.TheVariants.{Form, NoRegion, Outside}
-use Rattle.cd_words.specs.declared.sums.Variable.{Variable}
-use Rattle.cd_words.specs.Wrongs.{both, ◌>>=◌}
-use Rattle.cd_words.specs.Sums.{expression, is_dot, bounds_at}
-use Rattle.cd_words.specs.Names.{base_name, numbered_name, name}
+use Rattle.cd_tokens.specs.declared.wrong.Wrong.{Wrong}
+use Rattle.cd_tokens.specs.declared.wrong.Wrong.TheVariants.{Form, NoRegion, Outside}
+use Rattle.cd_tokens.specs.declared.sums.Variable.{Variable}
+use Rattle.cd_tokens.specs.Wrongs.{both, ◌>>=◌}
+use Rattle.cd_tokens.specs.Sums.{expression, is_dot, bounds_at}
+use Rattle.cd_tokens.specs.Names.{base_name, numbered_name, name}
 
 -- all words of the region with this number
 abbrev pub whole : ℕ → Region → Range
@@ -24,13 +24,13 @@ region_from at (region ∷ regions) name =
 abbrev pub region_named : List Region → List ℕ → Result Range Wrong
 region_named regions name = region_from 0 regions name
 
--- all words of the region that a word names
+-- all words of the region that a token names
 unfoldable pub region_in : List Variable → List Region → List ℕ → Result Range Wrong
-region_in variables regions word = name variables word >>= region_named regions
+region_in variables regions token = name variables token >>= region_named regions
 
 -- the same of a base alone, and of a base and a number
 abbrev pub base_region : List Region → List ℕ → Result Range Wrong
-base_region regions word = base_name word >>= region_named regions
+base_region regions token = base_name token >>= region_named regions
 
 abbrev pub numbered_region : List Variable → List Region → List ℕ → List ℕ → Result Range Wrong
 numbered_region variables regions base number = numbered_name variables base number >>= region_named regions
@@ -62,13 +62,13 @@ is_opening b = b == 91
 abbrev pub is_closing : ℕ → Bool
 is_closing b = b == 93
 
--- what stands before a `]` that ends a word
+-- what stands before a `]` that ends a token
 abbrev pub before_closing : List ℕ → Option ℕ → Option (List ℕ)
-before_closing word None = None
-before_closing word (Some at) = if at + 1 == length word then Some (take at word) else None
+before_closing token None = None
+before_closing token (Some at) = if at + 1 == length token then Some (take at token) else None
 
 abbrev pub bracketed : List ℕ → Option (List ℕ)
-bracketed word = before_closing word (position is_closing word)
+bracketed token = before_closing token (position is_closing token)
 
 -- the word of a region with the index that stands in brackets
 abbrev pub index_in : List Variable → List Region → List ℕ → Option (List ℕ) → Result Place Wrong
@@ -89,19 +89,19 @@ part_in variables regions region (Some numbers) = part_at variables regions regi
 
 -- a range whose first `[` stands at this place
 abbrev pub range_at : List Variable → List Region → List ℕ → Option ℕ → Result Range Wrong
-range_at variables regions word None = region_in variables regions word
-range_at variables regions word (Some at) =
-    part_in variables regions (take at word) (bracketed (drop (at + 1) word))
+range_at variables regions token None = region_in variables regions token
+range_at variables regions token (Some at) =
+    part_in variables regions (take at token) (bracketed (drop (at + 1) token))
 
 -- NAME, NAME[E..E] or NAME[E]
 unfoldable pub range_in : List Variable → List Region → List ℕ → Result Range Wrong
-range_in variables regions word = range_at variables regions word (position is_opening word)
+range_in variables regions token = range_at variables regions token (position is_opening token)
 
 abbrev pub place_at : List Variable → List Region → List ℕ → Option ℕ → Result Place Wrong
-place_at variables regions word None = Err Form
-place_at variables regions word (Some at) =
-    index_in variables regions (take at word) (bracketed (drop (at + 1) word))
+place_at variables regions token None = Err Form
+place_at variables regions token (Some at) =
+    index_in variables regions (take at token) (bracketed (drop (at + 1) token))
 
 -- NAME[E]
 unfoldable pub place_in : List Variable → List Region → List ℕ → Result Place Wrong
-place_in variables regions word = place_at variables regions word (position is_opening word)
+place_in variables regions token = place_at variables regions token (position is_opening token)

@@ -1,5 +1,5 @@
 -- What a draft keeps from statement to statement, so that it is a program when its root is closed. The document that is made
--- of a draft at the end rests on these facts; the reading itself only on the limits.
+-- of a draft at the end rests on these facts; parsing itself only on the limits.
 use Rattle.std.specs.Prelude.{◌≡◌, ℕ, suc, ◌+◌, ◌<◌, ◌≤◌, List, [], ◌∷◌, ◌++◌, None, Some, Option, length, slice_get, sum_by, All, IsSomeAnd}
 use Rattle.cd_base.specs.declared.place.Place.{Place}
 use Rattle.cd_base.specs.declared.place.Range.{Range}

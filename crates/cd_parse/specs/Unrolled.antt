@@ -2,12 +2,12 @@
 use Rattle.std.specs.Prelude.{ℕ, zero, suc, ◌+◌, ◌-◌, List, [], ◌∷◌, ◌++◌, Result, Ok, Err}
 use Rattle.cd_tree.specs.declared.document.Document.{Document}
 use Rattle.cd_tree.specs.declared.refusal.Refusal.{Refusal}
-use Rattle.cd_words.specs.declared.sums.Variable.{Variable}
-use Rattle.cd_words.specs.declared.lines.Line.{Line}
-use Rattle.cd_words.specs.Wrongs.{at_line, ◌>>=◌}
-use Rattle.cd_words.specs.Blocks.{marked_lines, Block, stop, says, repeats, here, blocks}
+use Rattle.cd_tokens.specs.declared.sums.Variable.{Variable}
+use Rattle.cd_tokens.specs.declared.lines.Line.{Line}
+use Rattle.cd_tokens.specs.Wrongs.{at_line, ◌>>=◌}
+use Rattle.cd_tokens.specs.Blocks.{marked_lines, Block, stop, says, repeats, here, blocks}
 use Rattle.cd_parse.specs.Draft.{DraftModel, no_draft, document_of}
-use Rattle.cd_parse.specs.Reading.{counted, taken, Loop, loop_in, variable_of, ended}
+use Rattle.cd_parse.specs.Parsing.{counted, taken, Loop, loop_in, variable_of, ended}
 
 -- what a text stands for, one by one: a statement, with the variables of the loops around it; the start of a turn of a loop;
 -- or the refusal of a loop's line
@@ -34,11 +34,11 @@ unfoldable pub steps : Block → List Variable → List Step
 steps stop variables = []
 steps (says line rest) variables = statement variables line ∷ steps rest variables
 steps (repeats line body rest) variables =
-    loop_steps (steps body) variables (at_line line.number (loop_in variables line.words)) ++ steps rest variables
+    loop_steps (steps body) variables (at_line line.number (loop_in variables line.tokens)) ++ steps rest variables
 
 -- ---- steps taken in order
 
--- a statement is taken, the start of a turn is counted, and a loop's line that is refused ends the reading
+-- a statement is taken, the start of a turn is counted, and a loop's line that is refused ends the parsing
 abbrev pub step_taken : Step → DraftModel → Result DraftModel Refusal
 step_taken (statement variables line) draft = taken variables line draft
 step_taken turn draft = counted draft

@@ -20,7 +20,7 @@ use Rattle.cd_tree.specs.declared.kinds.KindName.{KindName}
 use Rattle.cd_tree.specs.declared.operation.Op.{Op}
 use Rattle.cd_tree.specs.declared.operation.Op.TheVariants.{Fill, Copy, Add, Sub, Mul, Axpy, Scan, Sum, Dot, Max, Stencil, Spmv}
 use Rattle.cd_tree.specs.TreeModel.{IsTree}
-use Rattle.cd_words.specs.Sums.{is_base}
+use Rattle.cd_tokens.specs.Sums.{is_base}
 use Rattle.cd_parse.specs.Draft.{has_kind_named, has_region_named, four_kinds}
 use Rattle.cd_parse.specs.Operations.{fits}
 

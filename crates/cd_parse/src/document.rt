@@ -1,12 +1,12 @@
 ghost use Rattle.std.specs.Prelude.{◌≡◌, ◌≤◌, length};
 ghost use Rattle.cd_tree.specs.Limits.{text_limit};
 ghost use Rattle.cd_tree.specs.TreeModel.{IsTree};
-ghost use Rattle.cd_words.specs.Steps.{Answers};
+ghost use Rattle.cd_tokens.specs.Steps.{Answers};
 ghost use Rattle.cd_parse.specs.Draft.{document_of};
-ghost use Rattle.cd_parse.specs.Reading.{parse};
+ghost use Rattle.cd_parse.specs.Parsing.{parse};
 
 use crate::draft::Draft;
-use crate::reading::read_draft;
+use crate::parsing::read_draft;
 use cd_base::Items;
 use cd_tree::{Document, Refuse, Tree};
 use std::alloc::Global;

@@ -1,16 +1,16 @@
 //! The draft of a document, and the changes that statements make to it.
 ghost use Rattle.std.specs.Prelude.{◌≡◌, ◌+◌, ◌<◌, ◌^◌, ◌++◌, ◌∷◌, [], length, OnOk, Ok, slice_get, Some};
-ghost use Rattle.cd_words.specs.Steps.{Reads, Steps};
+ghost use Rattle.cd_tokens.specs.Steps.{Reads, Steps};
 ghost use Rattle.cd_parse.specs.Draft.{no_draft, is_start, takes_kinds, takes_regions, is_closed, takes_strikes, may_end, is_open, takes_items, is_empty_body, takes_entries, takes_domains, innermost, parent_of, changed, with_item, with_entry, add_item, add_entry, named, entered, add_domain, open_group};
 ghost use Rattle.cd_parse.specs.Heads.{entries_of, room_in, room_for_domain, ended_in, ended};
-ghost use Rattle.cd_parse.specs.Reading.{counted};
+ghost use Rattle.cd_parse.specs.Parsing.{counted};
 ghost use Rattle.cd_parse.specs.Rooms.{HaveRoom};
 
 use cd_base::{Items, NoMemory};
+use cd_tokens::{Stop, Wrong, room};
 use cd_tree::{
     Domain, Entry, Item, KindName, NodeId, RawScript, Refusal, Refuse, Regions, Which, limits,
 };
-use cd_words::{Stop, Wrong, room};
 use std::alloc::Global;
 use std::marker::Model;
 

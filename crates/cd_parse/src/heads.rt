@@ -1,12 +1,12 @@
-//! The statements, by the words behind their first.
+//! The statements, by the tokens after their keyword.
 ghost use Rattle.std.specs.Prelude.{◌≡◌, ◌+◌, ◌<◌, ◌^◌, ◌++◌, ◌∷◌, [], ◌&&◌, length, IfOk, OnOk, IsTrue, Ok, Err, true, false, bytes_eq, codes, if◌then◌else◌};
-ghost use Rattle.cd_words.specs.declared.wrong.Wrong.TheVariants.{Form};
-ghost use Rattle.cd_words.specs.Sums.{is_base};
+ghost use Rattle.cd_tokens.specs.declared.wrong.Wrong.TheVariants.{Form};
+ghost use Rattle.cd_tokens.specs.Sums.{is_base};
 ghost use Rattle.cd_parse.specs.declared.draft.Stage.TheVariants.{Regions};
 ghost use Rattle.cd_parse.specs.Statements.{with_op, operation_in};
-ghost use Rattle.cd_words.specs.Steps.{Steps};
+ghost use Rattle.cd_tokens.specs.Steps.{Steps};
 ghost use Rattle.cd_parse.specs.Draft.{four_kinds, kind_name, has_kind_named, has_region_named, is_parent, has_child_named, add_domain};
-ghost use Rattle.cd_words.specs.Wrongs.{both};
+ghost use Rattle.cd_tokens.specs.Wrongs.{both};
 ghost use Rattle.cd_parse.specs.Rooms.{HaveRoom};
 ghost use Rattle.cd_parse.specs.Heads.{name_fits, begun, cd_in, short_how, long_how, how_in, with_entry_of, preserve_in, faults_in, is_kind_name, with_kind_named, kind_in, room_for_domain, words_fit, region_of, with_region, regioned, region_statement, time_in, damage_in, with_fault, struck, strike_in, group_in, end_in, has_domain_form, retry_fits, domain_named, with_domain, domained, domain_in};
 
@@ -14,12 +14,12 @@ use crate::draft::{Draft, Stage};
 use crate::operations::{fits, op_in};
 use crate::ranges::{place_in, range_in};
 use cd_base::{Bytes, Items, NoMemory, Pattern, Place, Range, Text};
-use cd_tree::{
-    Domain, Entry, How, Item, Kind, KindName, Kinds, NodeId, Op, RawFault, Region, Which, limits,
-};
-use cd_words::{
+use cd_tokens::{
     Stop, Variable, Wrong, all_hold, both, expression, guard, is_base, kind, kind_set, name, path,
     pattern, room, text_of,
+};
+use cd_tree::{
+    Domain, Entry, How, Item, Kind, KindName, Kinds, NodeId, Op, RawFault, Region, Which, limits,
 };
 use std::alloc::Global;
 
@@ -47,10 +47,10 @@ fn three<A: Drop, B: Drop, C: Drop>(
 
 // cd 1, cd 2
 #[tactic(auto, unfolding(crate::specs::Heads::cd_in))]
-pub(crate) fn cd(alloc: Global, draft: &mut Draft, words: &[Bytes]) -> Result<(), Stop>
-    ensures { Steps draft.new result (cd_in draft.old words.now) }
+pub(crate) fn cd(alloc: Global, draft: &mut Draft, tokens: &[Bytes]) -> Result<(), Stop>
+    ensures { Steps draft.new result (cd_in draft.old tokens.now) }
 {
-    match words {
+    match tokens {
         [version] => {
             guard(draft.stage.is_start(), Wrong::Form)?;
             begin(alloc, draft, version.as_slice())
@@ -100,10 +100,10 @@ fn kind_name(alloc: Global, name: &str) -> Result<KindName, NoMemory>
 
 // faults
 #[tactic(auto, unfolding(crate::specs::Heads::faults_in))]
-pub(crate) fn faults(draft: &mut Draft, words: &[Bytes]) -> Result<(), Stop>
-    ensures { Steps draft.new result (faults_in draft.old words.now) }
+pub(crate) fn faults(draft: &mut Draft, tokens: &[Bytes]) -> Result<(), Stop>
+    ensures { Steps draft.new result (faults_in draft.old tokens.now) }
 {
-    match words {
+    match tokens {
         [] => {
             guard(draft.stage.is_closed(), Wrong::Form)?;
             draft.stage = Stage::Strikes;
@@ -117,23 +117,23 @@ pub(crate) fn faults(draft: &mut Draft, words: &[Bytes]) -> Result<(), Stop>
 
 // copy, refer, regen PATTERN
 #[tactic(auto, unfolding(crate::specs::Heads::how_in))]
-fn how_in(variables: &[Variable], words: &[Bytes]) -> Result<How, Wrong>
-    ensures { result ≡ how_in variables.now words.now }
+fn how_in(variables: &[Variable], tokens: &[Bytes]) -> Result<How, Wrong>
+    ensures { result ≡ how_in variables.now tokens.now }
 {
-    match words {
+    match tokens {
         [] => Err(Wrong::Form),
-        [word] => short_how(word.as_slice()),
-        [word, more @ ..] => long_how(variables, word.as_slice(), more),
+        [token] => short_how(token.as_slice()),
+        [token, more @ ..] => long_how(variables, token.as_slice(), more),
     }
 }
 
 // copy, refer
-fn short_how(word: &[u8]) -> Result<How, Wrong>
-    ensures { result ≡ short_how word.now }
+fn short_how(token: &[u8]) -> Result<How, Wrong>
+    ensures { result ≡ short_how token.now }
 {
-    if word == b"copy".as_slice() {
+    if token == b"copy".as_slice() {
         Ok(How::Copy)
-    } else if word == b"refer".as_slice() {
+    } else if token == b"refer".as_slice() {
         Ok(How::Refer)
     } else {
         Err(Wrong::Form)
@@ -141,10 +141,10 @@ fn short_how(word: &[u8]) -> Result<How, Wrong>
 }
 
 // regen PATTERN
-fn long_how(variables: &[Variable], word: &[u8], more: &[Bytes]) -> Result<How, Wrong>
-    ensures { result ≡ long_how variables.now word.now more.now }
+fn long_how(variables: &[Variable], token: &[u8], more: &[Bytes]) -> Result<How, Wrong>
+    ensures { result ≡ long_how variables.now token.now more.now }
 {
-    if word == b"regen".as_slice() {
+    if token == b"regen".as_slice() {
         Ok(How::Regen(pattern(variables, more)?))
     } else {
         Err(Wrong::Form)
@@ -156,11 +156,11 @@ fn long_how(variables: &[Variable], word: &[u8], more: &[Bytes]) -> Result<How, 
 pub(crate) fn preserve(
     variables: &[Variable],
     draft: &mut Draft,
-    words: &[Bytes],
+    tokens: &[Bytes],
 ) -> Result<(), Stop>
-    ensures { Steps draft.new result (preserve_in variables.now draft.old words.now) }
+    ensures { Steps draft.new result (preserve_in variables.now draft.old tokens.now) }
 {
-    match words {
+    match tokens {
         [range, more @ ..] => {
             let stage = guard(draft.takes_entries(), Wrong::Form);
             let range = range_in(variables, draft.regions.items(), range.as_slice());
@@ -192,64 +192,64 @@ fn add_entry(draft: &mut Draft, range: Range, how: How) -> Result<(), Stop>
 
 // kind BASE, kind BASE halt
 #[tactic(auto, unfolding(crate::specs::Heads::kind_in))]
-pub(crate) fn kind_statement(alloc: Global, draft: &mut Draft, words: &[Bytes]) -> Result<(), Stop>
-    ensures { Steps draft.new result (kind_in draft.old words.now) }
+pub(crate) fn kind_statement(alloc: Global, draft: &mut Draft, tokens: &[Bytes]) -> Result<(), Stop>
+    ensures { Steps draft.new result (kind_in draft.old tokens.now) }
 {
-    match words {
-        [word] => add_kind(alloc, draft, word.as_slice(), false),
-        [word, halt] => add_halting(alloc, draft, word.as_slice(), halt.as_slice()),
+    match tokens {
+        [token] => add_kind(alloc, draft, token.as_slice(), false),
+        [token, halt] => add_halting(alloc, draft, token.as_slice(), halt.as_slice()),
         _ => Err(Stop::Wrong(Wrong::Form)),
     }
 }
 
-fn add_halting(alloc: Global, draft: &mut Draft, word: &[u8], halt: &[u8]) -> Result<(), Stop>
-    ensures { Steps draft.new result (if bytes_eq halt.now (codes "halt") then with_kind_named draft.old word.now true else Err Form) }
+fn add_halting(alloc: Global, draft: &mut Draft, token: &[u8], halt: &[u8]) -> Result<(), Stop>
+    ensures { Steps draft.new result (if bytes_eq halt.now (codes "halt") then with_kind_named draft.old token.now true else Err Form) }
 {
     if halt == b"halt".as_slice() {
-        add_kind(alloc, draft, word, true)
+        add_kind(alloc, draft, token, true)
     } else {
         Err(Stop::Wrong(Wrong::Form))
     }
 }
 
-fn is_kind_name(word: &[u8]) -> bool
-    ensures value { result ≡ is_kind_name word.now }
-    ensures base { IsTrue result → is_base word.now ≡ true }
+fn is_kind_name(token: &[u8]) -> bool
+    ensures value { result ≡ is_kind_name token.now }
+    ensures base { IsTrue result → is_base token.now ≡ true }
 {
-    is_base(word) && word != b"none".as_slice()
+    is_base(token) && token != b"none".as_slice()
 }
 
-fn has_kind_named(kinds: &[KindName], word: &[u8]) -> bool
-    ensures { result ≡ has_kind_named kinds.now word.now }
+fn has_kind_named(kinds: &[KindName], token: &[u8]) -> bool
+    ensures { result ≡ has_kind_named kinds.now token.now }
 {
     kinds
         .iter()
-        .any(|kind| kind.name.as_str().as_bytes() == word)
+        .any(|kind| kind.name.as_str().as_bytes() == token)
 }
 
 #[tactic(auto, unfolding(crate::specs::Heads::with_kind_named))]
-fn add_kind(alloc: Global, draft: &mut Draft, word: &[u8], halts: bool) -> Result<(), Stop>
-    ensures { Steps draft.new result (with_kind_named draft.old word.now halts) }
+fn add_kind(alloc: Global, draft: &mut Draft, token: &[u8], halts: bool) -> Result<(), Stop>
+    ensures { Steps draft.new result (with_kind_named draft.old token.now halts) }
 {
-    if !draft.stage.takes_kinds() || !is_kind_name(word) {
+    if !draft.stage.takes_kinds() || !is_kind_name(token) {
         return Err(Stop::Wrong(Wrong::Form));
     }
-    let free = guard(!has_kind_named(draft.kinds.items(), word), Wrong::Taken);
+    let free = guard(!has_kind_named(draft.kinds.items(), token), Wrong::Taken);
     let count = room(Which::Kinds, limits::MOST_KINDS, draft.kinds.items().len());
-    all_hold(&[free, name_fits(word), count])?;
-    let name = text_of(alloc, word)?;
+    all_hold(&[free, name_fits(token), count])?;
+    let name = text_of(alloc, token)?;
     draft.kinds.push(KindName { name, halts })?;
     Ok(())
 }
 
 // ---- region
 
-fn has_region_named(regions: &[Region], word: &[u8]) -> bool
-    ensures { result ≡ has_region_named regions.now word.now }
+fn has_region_named(regions: &[Region], token: &[u8]) -> bool
+    ensures { result ≡ has_region_named regions.now token.now }
 {
     regions
         .iter()
-        .any(|region| region.name.as_str().as_bytes() == word)
+        .any(|region| region.name.as_str().as_bytes() == token)
 }
 
 fn words_fit(words: u64, size: u64) -> Result<(), Wrong>
@@ -269,14 +269,14 @@ pub(crate) fn region_statement(
     alloc: Global,
     variables: &[Variable],
     draft: &mut Draft,
-    words: &[Bytes],
+    tokens: &[Bytes],
 ) -> Result<(), Stop>
-    ensures { Steps draft.new result (region_statement variables.now draft.old words.now) }
+    ensures { Steps draft.new result (region_statement variables.now draft.old tokens.now) }
 {
-    match words {
-        [word, size, more @ ..] => {
+    match tokens {
+        [token, size, more @ ..] => {
             let stage = guard(draft.stage.takes_regions(), Wrong::Form);
-            let named = name(alloc, variables, word.as_slice())?;
+            let named = name(alloc, variables, token.as_slice())?;
             let size = expression(variables, size.as_slice());
             let pattern = pattern(variables, more);
             region_of(draft, stage, named, size, pattern)
@@ -303,8 +303,11 @@ fn region_of(
 fn add_region(draft: &mut Draft, named: Text, size: u64, pattern: Pattern) -> Result<(), Stop>
     ensures { Steps draft.new result (with_region draft.old named size pattern) }
 {
-    let word = named.as_str().as_bytes();
-    let free = guard(!has_region_named(draft.regions.items(), word), Wrong::Taken);
+    let token = named.as_str().as_bytes();
+    let free = guard(
+        !has_region_named(draft.regions.items(), token),
+        Wrong::Taken,
+    );
     let some = guard(0 < size, Wrong::Unfit);
     let count = room(
         Which::Regions,
@@ -312,7 +315,7 @@ fn add_region(draft: &mut Draft, named: Text, size: u64, pattern: Pattern) -> Re
         draft.regions.items().len(),
     );
     let sum = words_fit(draft.words, size);
-    all_hold(&[free, some, name_fits(word), count, sum])?;
+    all_hold(&[free, some, name_fits(token), count, sum])?;
     put_region(draft, named, size, pattern)?;
     Ok(())
 }
@@ -348,14 +351,14 @@ fn time_in(variables: &[Variable], begin: &[u8], point: &[u8]) -> Result<(u64, u
 fn damage_in(
     variables: &[Variable],
     draft: &Draft,
-    word: &[u8],
+    token: &[u8],
     place: &[u8],
     mask: &[u8],
 ) -> Result<(Kind, (Place, u64)), Wrong>
-    ensures { result ≡ damage_in variables.now draft.now word.now place.now mask.now }
+    ensures { result ≡ damage_in variables.now draft.now token.now place.now mask.now }
 {
     both(
-        kind(draft.kinds.items(), word),
+        kind(draft.kinds.items(), token),
         both(
             place_in(variables, draft.regions.items(), place),
             expression(variables, mask),
@@ -369,11 +372,11 @@ pub(crate) fn strike(
     alloc: Global,
     variables: &[Variable],
     draft: &mut Draft,
-    words: &[Bytes],
+    tokens: &[Bytes],
 ) -> Result<(), Stop>
-    ensures { Steps draft.new result (strike_in variables.now draft.old words.now) }
+    ensures { Steps draft.new result (strike_in variables.now draft.old tokens.now) }
 {
-    match words {
+    match tokens {
         [domain, begin, point, kind, place, mask] => {
             let stage = guard(draft.stage.takes_strikes(), Wrong::Form);
             let path = path(alloc, variables, domain.as_slice())?;
@@ -461,10 +464,10 @@ pub(crate) fn operation(
 
 // group
 #[tactic(auto, unfolding(crate::specs::Heads::group_in))]
-pub(crate) fn group(alloc: Global, draft: &mut Draft, words: &[Bytes]) -> Result<(), Stop>
-    ensures { Steps draft.new result (group_in draft.old words.now) }
+pub(crate) fn group(alloc: Global, draft: &mut Draft, tokens: &[Bytes]) -> Result<(), Stop>
+    ensures { Steps draft.new result (group_in draft.old tokens.now) }
 {
-    match words {
+    match tokens {
         [] => {
             let stage = guard(draft.takes_items(), Wrong::Form);
             let count = room(Which::Items, limits::MOST_ITEMS, draft.items as usize);
@@ -478,11 +481,11 @@ pub(crate) fn group(alloc: Global, draft: &mut Draft, words: &[Bytes]) -> Result
 
 // end
 #[tactic(auto, unfolding(crate::specs::Heads::end_in))]
-pub(crate) fn end(draft: &mut Draft, words: &[Bytes]) -> Result<(), Stop>
+pub(crate) fn end(draft: &mut Draft, tokens: &[Bytes]) -> Result<(), Stop>
     requires { HaveRoom draft.old.domains }
-    ensures { Steps draft.new result (end_in draft.old words.now) }
+    ensures { Steps draft.new result (end_in draft.old tokens.now) }
 {
-    match words {
+    match tokens {
         [] => draft.close(),
         _ => Err(Stop::Wrong(Wrong::Form)),
     }
@@ -496,18 +499,18 @@ fn has_domain_form(draft: &Draft, retry: &[u8], detects: &[u8]) -> bool
     draft.takes_domains() && (retry == b"retry".as_slice() && detects == b"detects".as_slice())
 }
 
-fn has_child_named(domains: &[Domain], parent: Option<NodeId>, word: &[u8]) -> bool
-    ensures { result ≡ has_child_named domains.now parent word.now }
+fn has_child_named(domains: &[Domain], parent: Option<NodeId>, token: &[u8]) -> bool
+    ensures { result ≡ has_child_named domains.now parent token.now }
 {
     domains
         .iter()
-        .any(|domain| is_child_named(domain, parent, word))
+        .any(|domain| is_child_named(domain, parent, token))
 }
 
-fn is_child_named(domain: &Domain, parent: Option<NodeId>, word: &[u8]) -> bool
-    ensures { result ≡ (is_parent domain.now.parent parent && bytes_eq domain.now.name word.now) }
+fn is_child_named(domain: &Domain, parent: Option<NodeId>, token: &[u8]) -> bool
+    ensures { result ≡ (is_parent domain.now.parent parent && bytes_eq domain.now.name token.now) }
 {
-    is_parent(domain.parent, parent) && domain.name.as_str().as_bytes() == word
+    is_parent(domain.parent, parent) && domain.name.as_str().as_bytes() == token
 }
 
 fn is_parent(one: Option<NodeId>, other: Option<NodeId>) -> bool
@@ -526,18 +529,18 @@ pub(crate) fn domain(
     alloc: Global,
     variables: &[Variable],
     draft: &mut Draft,
-    words: &[Bytes],
+    tokens: &[Bytes],
 ) -> Result<(), Stop>
     requires { HaveRoom draft.old.domains }
-    ensures { Steps draft.new result (domain_in variables.now draft.old words.now) }
+    ensures { Steps draft.new result (domain_in variables.now draft.old tokens.now) }
 {
-    match words {
-        [word, retry, tries, detects, kinds] => {
+    match tokens {
+        [token, retry, tries, detects, kinds] => {
             let form = guard(
                 has_domain_form(draft, retry.as_slice(), detects.as_slice()),
                 Wrong::Form,
             );
-            let named = name(alloc, variables, word.as_slice())?;
+            let named = name(alloc, variables, token.as_slice())?;
             let tries = expression(variables, tries.as_slice());
             let kinds = kind_set(draft.kinds.items(), kinds.as_slice());
             domain_of(alloc, draft, form, named, tries, kinds)
@@ -582,16 +585,16 @@ fn add_domain(
     requires { HaveRoom draft.old.domains }
     ensures { Steps draft.new result (with_domain draft.old named tries kinds) }
 {
-    let word = named.as_str().as_bytes();
+    let token = named.as_str().as_bytes();
     let parent = draft.parent();
-    let taken = has_child_named(draft.domains.as_slice(), parent, word);
+    let taken = has_child_named(draft.domains.as_slice(), parent, token);
     let free = guard(!taken, Wrong::Taken);
     let count = room(Which::Domains, limits::MOST_DOMAINS, draft.domains.len());
     let depth = room(Which::Depth, limits::MOST_DEPTH, draft.levels.len());
     let place = draft.room_for_domain();
     all_hold(&[
         free,
-        name_fits(word),
+        name_fits(token),
         count,
         depth,
         place,

@@ -6,8 +6,8 @@ mod draft;
 mod heads;
 pub mod laws;
 mod operations;
+mod parsing;
 mod ranges;
-mod reading;
 mod statements;
 
 pub use document::read_document;

@@ -4,20 +4,20 @@ ghost use Rattle.cd_tree.specs.Operations.{length_of};
 
 use crate::ranges::range_in;
 use cd_base::{Bytes, Range};
+use cd_tokens::{Variable, Wrong, both, expression};
 use cd_tree::{Op, Region};
-use cd_words::{Variable, Wrong, both, expression};
 
 // Two ranges.
 #[tactic(auto, unfolding(crate::specs::Operations::two_ranges))]
 fn two_ranges(
     variables: &[Variable],
     regions: &[Region],
-    words: &[Bytes],
+    tokens: &[Bytes],
 ) -> Result<(Range, Range), Wrong>
     requires { length regions.now < 2 ^ 32 }
-    ensures { result ≡ two_ranges variables.now regions.now words.now }
+    ensures { result ≡ two_ranges variables.now regions.now tokens.now }
 {
-    match words {
+    match tokens {
         [d, x] => both(
             range_in(variables, regions, d.as_slice()),
             range_in(variables, regions, x.as_slice()),
@@ -31,12 +31,12 @@ fn two_ranges(
 fn three_ranges(
     variables: &[Variable],
     regions: &[Region],
-    words: &[Bytes],
+    tokens: &[Bytes],
 ) -> Result<(Range, (Range, Range)), Wrong>
     requires { length regions.now < 2 ^ 32 }
-    ensures { result ≡ three_ranges variables.now regions.now words.now }
+    ensures { result ≡ three_ranges variables.now regions.now tokens.now }
 {
-    match words {
+    match tokens {
         [d, x, z] => both(
             range_in(variables, regions, d.as_slice()),
             both(
@@ -50,11 +50,11 @@ fn three_ranges(
 
 // fill D k
 #[tactic(auto, unfolding(crate::specs::Operations::fill_in))]
-fn fill_in(variables: &[Variable], regions: &[Region], words: &[Bytes]) -> Result<Op, Wrong>
+fn fill_in(variables: &[Variable], regions: &[Region], tokens: &[Bytes]) -> Result<Op, Wrong>
     requires { length regions.now < 2 ^ 32 }
-    ensures { result ≡ fill_in variables.now regions.now words.now }
+    ensures { result ≡ fill_in variables.now regions.now tokens.now }
 {
-    match words {
+    match tokens {
         [d, k] => {
             let (d, k) = both(
                 range_in(variables, regions, d.as_slice()),
@@ -68,11 +68,11 @@ fn fill_in(variables: &[Variable], regions: &[Region], words: &[Bytes]) -> Resul
 
 // axpy D k X
 #[tactic(auto, unfolding(crate::specs::Operations::axpy_in))]
-fn axpy_in(variables: &[Variable], regions: &[Region], words: &[Bytes]) -> Result<Op, Wrong>
+fn axpy_in(variables: &[Variable], regions: &[Region], tokens: &[Bytes]) -> Result<Op, Wrong>
     requires { length regions.now < 2 ^ 32 }
-    ensures { result ≡ axpy_in variables.now regions.now words.now }
+    ensures { result ≡ axpy_in variables.now regions.now tokens.now }
 {
-    match words {
+    match tokens {
         [d, k, x] => {
             let d = range_in(variables, regions, d.as_slice());
             let k = expression(variables, k.as_slice());
@@ -97,11 +97,11 @@ fn weights(variables: &[Variable], a: &[u8], b: &[u8], c: &[u8]) -> Result<(u64,
 
 // stencil D a b c X
 #[tactic(auto, unfolding(crate::specs::Operations::stencil_in))]
-fn stencil_in(variables: &[Variable], regions: &[Region], words: &[Bytes]) -> Result<Op, Wrong>
+fn stencil_in(variables: &[Variable], regions: &[Region], tokens: &[Bytes]) -> Result<Op, Wrong>
     requires { length regions.now < 2 ^ 32 }
-    ensures { result ≡ stencil_in variables.now regions.now words.now }
+    ensures { result ≡ stencil_in variables.now regions.now tokens.now }
 {
-    match words {
+    match tokens {
         [d, a, b, c, x] => {
             let d = range_in(variables, regions, d.as_slice());
             let numbers = weights(variables, a.as_slice(), b.as_slice(), c.as_slice());
@@ -125,11 +125,11 @@ fn stencil_of(
 
 // spmv D S C V X
 #[tactic(auto, unfolding(crate::specs::Operations::spmv_in))]
-fn spmv_in(variables: &[Variable], regions: &[Region], words: &[Bytes]) -> Result<Op, Wrong>
+fn spmv_in(variables: &[Variable], regions: &[Region], tokens: &[Bytes]) -> Result<Op, Wrong>
     requires { length regions.now < 2 ^ 32 }
-    ensures { result ≡ spmv_in variables.now regions.now words.now }
+    ensures { result ≡ spmv_in variables.now regions.now tokens.now }
 {
-    match words {
+    match tokens {
         [d, s, more @ ..] => {
             let d = range_in(variables, regions, d.as_slice());
             let s = range_in(variables, regions, s.as_slice());
@@ -201,31 +201,31 @@ fn is_long(keyword: &[u8]) -> bool
             || (keyword == b"mul".as_slice() || keyword == b"dot".as_slice()))
 }
 
-/// The operation of this name and these words. It takes no memory.
+/// The operation of this name and these tokens. It takes no memory.
 #[tactic(auto, unfolding(crate::specs::Operations::op_in))]
 pub(crate) fn op_in(
     variables: &[Variable],
     regions: &[Region],
     keyword: &[u8],
-    words: &[Bytes],
+    tokens: &[Bytes],
 ) -> Result<Op, Wrong>
     requires { length regions.now < 2 ^ 32 }
-    ensures { result ≡ op_in variables.now regions.now keyword.now words.now }
+    ensures { result ≡ op_in variables.now regions.now keyword.now tokens.now }
 {
     if is_short(keyword) {
-        let (d, x) = two_ranges(variables, regions, words)?;
+        let (d, x) = two_ranges(variables, regions, tokens)?;
         short_op(keyword, d, x)
     } else if is_long(keyword) {
-        let (d, (x, z)) = three_ranges(variables, regions, words)?;
+        let (d, (x, z)) = three_ranges(variables, regions, tokens)?;
         long_op(keyword, d, x, z)
     } else if keyword == b"fill".as_slice() {
-        fill_in(variables, regions, words)
+        fill_in(variables, regions, tokens)
     } else if keyword == b"axpy".as_slice() {
-        axpy_in(variables, regions, words)
+        axpy_in(variables, regions, tokens)
     } else if keyword == b"stencil".as_slice() {
-        stencil_in(variables, regions, words)
+        stencil_in(variables, regions, tokens)
     } else if keyword == b"spmv".as_slice() {
-        spmv_in(variables, regions, words)
+        spmv_in(variables, regions, tokens)
     } else {
         Err(Wrong::Form)
     }

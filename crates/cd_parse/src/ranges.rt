@@ -1,10 +1,10 @@
 ghost use Rattle.std.specs.Prelude.{◌≡◌, ◌<◌, ◌^◌, ◌++◌, length, position, MatchOption, IsSome, None, Some, decimal};
-ghost use Rattle.cd_words.specs.Sums.{is_dot};
+ghost use Rattle.cd_tokens.specs.Sums.{is_dot};
 ghost use Rattle.cd_parse.specs.Ranges.{whole, region_named, base_region, numbered_region, region_in, some_words, one_place, one_word, bracketed, index_in, part_at, part_in, range_in, place_in};
 
 use cd_base::{Place, Range};
+use cd_tokens::{Variable, Wrong, both, bounds, expression, find, guard, is_base, is_numbered};
 use cd_tree::Region;
-use cd_words::{Variable, Wrong, both, bounds, expression, find, guard, is_base, is_numbered};
 
 // All words of the region with this number.
 fn whole(number: u32, region: &Region) -> Range
@@ -43,24 +43,24 @@ fn region_numbered(regions: &[Region], base: &[u8], number: u64) -> Result<Range
     Err(Wrong::NoRegion)
 }
 
-// All words of the region that a word names.
-#[tactic(auto, unfolding(crate::specs::Ranges::region_in, cd_words::specs::Names::name))]
-fn region_in(variables: &[Variable], regions: &[Region], word: &[u8]) -> Result<Range, Wrong>
+// All words of the region that a token names.
+#[tactic(auto, unfolding(crate::specs::Ranges::region_in, cd_tokens::specs::Names::name))]
+fn region_in(variables: &[Variable], regions: &[Region], token: &[u8]) -> Result<Range, Wrong>
     requires { length regions.now < 2 ^ 32 }
-    ensures { result ≡ region_in variables.now regions.now word.now }
+    ensures { result ≡ region_in variables.now regions.now token.now }
 {
-    match find(word, b':') {
-        None => base_region(regions, word),
-        Some(at) => numbered_region(variables, regions, &word[..at], &word[at + 1..]),
+    match find(token, b':') {
+        None => base_region(regions, token),
+        Some(at) => numbered_region(variables, regions, &token[..at], &token[at + 1..]),
     }
 }
 
-fn base_region(regions: &[Region], word: &[u8]) -> Result<Range, Wrong>
+fn base_region(regions: &[Region], token: &[u8]) -> Result<Range, Wrong>
     requires { length regions.now < 2 ^ 32 }
-    ensures { result ≡ base_region regions.now word.now }
+    ensures { result ≡ base_region regions.now token.now }
 {
-    guard(is_base(word), Wrong::Form)?;
-    region_named(regions, word)
+    guard(is_base(token), Wrong::Form)?;
+    region_named(regions, token)
 }
 
 fn numbered_region(
@@ -123,12 +123,12 @@ fn one_word(region: Range, index: u64) -> Result<Range, Wrong>
     }
 }
 
-// What stands before a `]` that ends a word.
-fn bracketed(word: &[u8]) -> Option<&[u8]>
-    ensures { MatchOption result (bracketed word.now ≡ None) (λ inside. bracketed word.now ≡ Some inside.now) }
+// What stands before a `]` that ends a token.
+fn bracketed(token: &[u8]) -> Option<&[u8]>
+    ensures { MatchOption result (bracketed token.now ≡ None) (λ inside. bracketed token.now ≡ Some inside.now) }
 {
-    match find(word, b']') {
-        Some(at) if at + 1 == word.len() => Some(&word[..at]),
+    match find(token, b']') {
+        Some(at) if at + 1 == token.len() => Some(&token[..at]),
         _ => None,
     }
 }
@@ -167,7 +167,7 @@ fn word_in(
 }
 
 // The words of a region between two numbers.
-#[tactic(auto, unfolding(cd_words::specs::Sums::bounds))]
+#[tactic(auto, unfolding(cd_tokens::specs::Sums::bounds))]
 fn words_in(
     variables: &[Variable],
     regions: &[Region],
@@ -236,14 +236,14 @@ fn bracketed_index(
 pub(crate) fn range_in(
     variables: &[Variable],
     regions: &[Region],
-    word: &[u8],
+    token: &[u8],
 ) -> Result<Range, Wrong>
     requires { length regions.now < 2 ^ 32 }
-    ensures { result ≡ range_in variables.now regions.now word.now }
+    ensures { result ≡ range_in variables.now regions.now token.now }
 {
-    match find(word, b'[') {
-        None => region_in(variables, regions, word),
-        Some(at) => bracketed_part(variables, regions, &word[..at], &word[at + 1..]),
+    match find(token, b'[') {
+        None => region_in(variables, regions, token),
+        Some(at) => bracketed_part(variables, regions, &token[..at], &token[at + 1..]),
     }
 }
 
@@ -252,13 +252,13 @@ pub(crate) fn range_in(
 pub(crate) fn place_in(
     variables: &[Variable],
     regions: &[Region],
-    word: &[u8],
+    token: &[u8],
 ) -> Result<Place, Wrong>
     requires { length regions.now < 2 ^ 32 }
-    ensures { result ≡ place_in variables.now regions.now word.now }
+    ensures { result ≡ place_in variables.now regions.now token.now }
 {
-    match find(word, b'[') {
+    match find(token, b'[') {
         None => Err(Wrong::Form),
-        Some(at) => bracketed_index(variables, regions, &word[..at], &word[at + 1..]),
+        Some(at) => bracketed_index(variables, regions, &token[..at], &token[at + 1..]),
     }
 }

@@ -1,6 +1,6 @@
-//! A statement by its first word.
+//! A statement by its keyword.
 ghost use Rattle.std.specs.Prelude.{◌≡◌};
-ghost use Rattle.cd_words.specs.Steps.{Steps};
+ghost use Rattle.cd_tokens.specs.Steps.{Steps};
 ghost use Rattle.cd_parse.specs.Rooms.{HaveRoom};
 ghost use Rattle.cd_parse.specs.Statements.{statement, statement_in};
 
@@ -9,27 +9,27 @@ use crate::heads::{
     cd, domain, end, faults, group, kind_statement, operation, preserve, region_statement, strike,
 };
 use cd_base::Bytes;
-use cd_words::{Stop, Variable, Wrong};
+use cd_tokens::{Stop, Variable, Wrong};
 use std::alloc::Global;
 
-/// A statement of these words.
+/// A statement of these tokens.
 #[tactic(auto, unfolding(crate::specs::Statements::statement_in))]
 pub(crate) fn statement(
     alloc: Global,
     variables: &[Variable],
-    words: &[Bytes],
+    tokens: &[Bytes],
     draft: &mut Draft,
 ) -> Result<(), Stop>
     requires { HaveRoom draft.old.domains }
-    ensures { Steps draft.new result (statement_in variables.now words.now draft.old) }
+    ensures { Steps draft.new result (statement_in variables.now tokens.now draft.old) }
 {
-    match words {
+    match tokens {
         [] => Err(Stop::Wrong(Wrong::Form)),
         [keyword, rest @ ..] => by_keyword(alloc, variables, draft, keyword.as_slice(), rest),
     }
 }
 
-// A statement by its first word and those behind it.
+// A statement by its keyword and the tokens after it.
 #[tactic(auto, unfolding(crate::specs::Statements::statement))]
 fn by_keyword(
     alloc: Global,

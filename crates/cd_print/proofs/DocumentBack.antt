@@ -7,9 +7,9 @@ use Rattle.cd_tree.specs.declared.document.Region.{Region}
 use Rattle.cd_tree.specs.declared.document.RawFault.{RawFault}
 use Rattle.cd_tree.specs.declared.kinds.Kind.{Kind}
 use Rattle.cd_tree.specs.declared.kinds.KindName.{KindName}
-use Rattle.cd_words.specs.Kinds.{kind}
+use Rattle.cd_tokens.specs.Kinds.{kind}
 use Rattle.cd_parse.specs.Draft.{DraftModel, takes_kinds, takes_regions, takes_strikes, has_kind_named}
-use Rattle.cd_print.specs.Canonical.{kind_word, kind_statement, region_statement, strike_statement}
+use Rattle.cd_print.specs.Canonical.{kind_token, kind_statement, region_statement, strike_statement}
 use Rattle.cd_parse.specs.WellRead.{AreReadKinds, AreReadRegions, IsFoundKind, AreReadFaults}
 use Rattle.cd_print.proofs.KindsBack.{kind_read}
 use Rattle.cd_print.proofs.HeadsBack.{in_first, kind_done, region_done, strike_done}
@@ -81,7 +81,7 @@ among before (one ∷ kinds) zero it all number h there whole size =
 among before (one ∷ kinds) (suc k) it all number h there whole size =
     among (before ++ one ∷ []) kinds k it all number h.4 there (whole ∙ sym (append_assoc before (one ∷ []) kinds)) (omega (arith, size, length-append before (one ∷ [])))
 
-kind_found_by_name : (kinds : List KindName) (k : Kind) → AreReadKinds [] kinds → length kinds ≤ 16 → IsFoundKind kinds k → kind kinds (kind_word kinds k) ≡ Ok k
+kind_found_by_name : (kinds : List KindName) (k : Kind) → AreReadKinds [] kinds → length kinds ≤ 16 → IsFoundKind kinds k → kind kinds (kind_token kinds k) ≡ Ok k
 kind_found_by_name kinds k h few f =
     let a : Among kinds k.0 f.named = among [] kinds k.0 f.named kinds k.0 h f.there refl (omega arith) in
     ap (λ (o : Option KindName). kind kinds (option_map_or (λ it. it.name) o [])) f.there

@@ -18,18 +18,18 @@ use Rattle.cd_tree.specs.declared.domain.Domain.{Domain}
 use Rattle.cd_tree.specs.declared.kinds.Kind.{Kind}
 use Rattle.cd_tree.specs.declared.kinds.KindName.{KindName}
 use Rattle.cd_tree.specs.declared.refusal.Which.TheVariants as which
-use Rattle.cd_words.specs.declared.wrong.Wrong.{Wrong}
-use Rattle.cd_words.specs.declared.wrong.Wrong.TheVariants.{Form, Taken, Unfit, Limit}
-use Rattle.cd_words.specs.Wrongs.{both, guard, room, all_hold, ◌>>=◌}
-use Rattle.cd_words.specs.Sums.{is_base, expression}
-use Rattle.cd_words.specs.Names.{name, path}
-use Rattle.cd_words.specs.Kinds.{kind, kind_set, pattern}
+use Rattle.cd_tokens.specs.declared.wrong.Wrong.{Wrong}
+use Rattle.cd_tokens.specs.declared.wrong.Wrong.TheVariants.{Form, Taken, Unfit, Limit}
+use Rattle.cd_tokens.specs.Wrongs.{both, guard, room, all_hold, ◌>>=◌}
+use Rattle.cd_tokens.specs.Sums.{is_base, expression}
+use Rattle.cd_tokens.specs.Names.{name, path}
+use Rattle.cd_tokens.specs.Kinds.{kind, kind_set, pattern}
 use Rattle.cd_parse.specs.Draft.{DraftModel, no_draft, close_domain, takes_kinds, takes_regions, takes_items, takes_entries, takes_domains, is_closed, takes_strikes, may_end, add_entry, add_domain, open_group, innermost, parent_of, has_kind_named, has_region_named, has_child_named, kind_name}
 use Rattle.cd_parse.specs.Ranges.{range_in, place_in}
 use Rattle.cd_parse.specs.Heads.{begun, cd_in, with_kind_named, kind_in, name_fits, words_fit, with_region, region_of, with_domain, room_for_domain, domain_named, domain_in, entries_of, entry_of, with_entry_of, how_in, preserve_in, group_in, faults_in, fault_of, with_fault, time_in, damage_in, strike_in}
 use Rattle.cd_parse.specs.Heads as heads
 use Rattle.cd_parse.specs.Statements.{statement, statement_in}
-use Rattle.cd_print.specs.Canonical.{range_word, place_word, kind_word, kinds_word, pattern_words, kind_statement, region_statement, domain_statement, how_words, entry_statement, strike_statement}
+use Rattle.cd_print.specs.Canonical.{range_token, place_token, kind_token, kinds_token, pattern_tokens, kind_statement, region_statement, domain_statement, how_tokens, entry_statement, strike_statement}
 use Rattle.cd_parse.specs.WellRead.{IsReadRange, IsReadPattern, IsReadHow, IsReadPath, IsReadPlace, AreReadKinds}
 use Rattle.cd_print.proofs.NumbersBack.{number_read}
 use Rattle.cd_print.proofs.NamesBack.{name_read, range_read, place_read, pattern_read}
@@ -63,8 +63,8 @@ both_true : (a b : Bool) → a ≡ true → b ≡ true → (a && b) ≡ true
 both_true true b e f = f
 both_true false b e f = absurd (cc)
 
-short_name : (word : List ℕ) → length word ≤ 32 → name_fits word ≡ Ok tt
-short_name word h = held (nat_le (length word) 32) (Limit which.Name (length word)) (within (length word) 32 h)
+short_name : (token : List ℕ) → length token ≤ 32 → name_fits token ≡ Ok tt
+short_name token h = held (nat_le (length token) 32) (Limit which.Name (length token)) (within (length token) 32 h)
 
 -- ---- version, kinds and regions
 
@@ -88,37 +88,37 @@ pub second_version : Does no_draft (codes "cd" ∷ decimal 2 ∷ []) in_second
 unfolding statement_in statement cd_in digits
 second_version n = refl
 
-other_word : (word none : List ℕ) → (word ≡ none → ⊥) → bytes_eq word none ≡ false
-other_word word none differs = by (bytes_eq word none) refl
+other_token : (token none : List ℕ) → (token ≡ none → ⊥) → bytes_eq token none ≡ false
+other_token token none differs = by (bytes_eq token none) refl
   where
-    by : (t : Bool) → bytes_eq word none ≡ t → t ≡ false
-    by true e = absurd (differs ((bytes_eq-Decides word none).0 e))
+    by : (t : Bool) → bytes_eq token none ≡ t → t ≡ false
+    by true e = absurd (differs ((bytes_eq-Decides token none).0 e))
     by false e = refl
 
 -- the tests of a kind's name behind its form
 abbrev kind_tests : DraftModel → List ℕ → List (Result (Unit {0}) Wrong)
-kind_tests draft word =
-    guard (not (has_kind_named draft.kinds word)) Taken ∷ name_fits word ∷ room which.Kinds 16 (length draft.kinds) ∷ []
+kind_tests draft token =
+    guard (not (has_kind_named draft.kinds token)) Taken ∷ name_fits token ∷ room which.Kinds 16 (length draft.kinds) ∷ []
 
-kind_put : (draft : DraftModel) (word : List ℕ) (halts : Bool) → takes_kinds draft.stage ≡ true → is_base word ≡ true → (word ≡ codes "none" → ⊥)
-    → has_kind_named draft.kinds word ≡ false → length word ≤ 32 → length draft.kinds < 16
-    → with_kind_named draft word halts ≡ Ok (record draft { kinds = draft.kinds ++ kind_name word halts ∷ [] })
+kind_put : (draft : DraftModel) (token : List ℕ) (halts : Bool) → takes_kinds draft.stage ≡ true → is_base token ≡ true → (token ≡ codes "none" → ⊥)
+    → has_kind_named draft.kinds token ≡ false → length token ≤ 32 → length draft.kinds < 16
+    → with_kind_named draft token halts ≡ Ok (record draft { kinds = draft.kinds ++ kind_name token halts ∷ [] })
 unfolding with_kind_named
-kind_put draft word halts stands base differs new fits few =
-    bound (guard (takes_kinds draft.stage && (is_base word && not (bytes_eq word (codes "none")))) Form) tt
-    (λ _. all_hold (kind_tests draft word) >>= λ _. Ok (record draft { kinds = draft.kinds ++ kind_name word halts ∷ [] }))
-    (held (takes_kinds draft.stage && (is_base word && not (bytes_eq word (codes "none")))) Form
-    (both_true (takes_kinds draft.stage) (is_base word && not (bytes_eq word (codes "none"))) stands
-    (both_true (is_base word) (not (bytes_eq word (codes "none"))) base (negated (bytes_eq word (codes "none")) (other_word word (codes "none") differs)))))
-    ∙ passed (kind_tests draft word) (record draft { kinds = draft.kinds ++ kind_name word halts ∷ [] }) (
-      held (not (has_kind_named draft.kinds word)) Taken (negated (has_kind_named draft.kinds word) new),
-      (short_name word fits, (has_room which.Kinds 16 (length draft.kinds) few, tt)),
+kind_put draft token halts stands base differs new fits few =
+    bound (guard (takes_kinds draft.stage && (is_base token && not (bytes_eq token (codes "none")))) Form) tt
+    (λ _. all_hold (kind_tests draft token) >>= λ _. Ok (record draft { kinds = draft.kinds ++ kind_name token halts ∷ [] }))
+    (held (takes_kinds draft.stage && (is_base token && not (bytes_eq token (codes "none")))) Form
+    (both_true (takes_kinds draft.stage) (is_base token && not (bytes_eq token (codes "none"))) stands
+    (both_true (is_base token) (not (bytes_eq token (codes "none"))) base (negated (bytes_eq token (codes "none")) (other_token token (codes "none") differs)))))
+    ∙ passed (kind_tests draft token) (record draft { kinds = draft.kinds ++ kind_name token halts ∷ [] }) (
+      held (not (has_kind_named draft.kinds token)) Taken (negated (has_kind_named draft.kinds token) new),
+      (short_name token fits, (has_room which.Kinds 16 (length draft.kinds) few, tt)),
     )
 
-kind_said : (draft : DraftModel) (word : List ℕ) (halts : Bool) → statement_in [] (kind_statement (kind_name word halts)) draft ≡ with_kind_named draft word halts
+kind_said : (draft : DraftModel) (token : List ℕ) (halts : Bool) → statement_in [] (kind_statement (kind_name token halts)) draft ≡ with_kind_named draft token halts
 unfolding statement_in statement kind_in
-kind_said draft word true = refl
-kind_said draft word false = refl
+kind_said draft token true = refl
+kind_said draft token false = refl
 
 pub kind_done : (draft : DraftModel) (it : KindName) → takes_kinds draft.stage ≡ true → is_base it.name ≡ true → (it.name ≡ codes "none" → ⊥)
     → has_kind_named draft.kinds it.name ≡ false → length it.name ≤ 32 → length draft.kinds < 16
@@ -155,11 +155,11 @@ pub region_done : (draft : DraftModel) (it : Region) → takes_regions draft.sta
     ≡ Ok (record draft { stage = in_first.stage; regions = draft.regions ++ it ∷ []; words = draft.words + it.length })
 unfolding statement_in statement heads.region_statement
 region_done draft it stands base numbers new some fits few room_left =
-    let parts : Result (List ℕ × (ℕ × Pattern)) Wrong = both (name [] it.name) (both (expression [] (decimal it.length)) (pattern [] (pattern_words it.pattern))) in
+    let parts : Result (List ℕ × (ℕ × Pattern)) Wrong = both (name [] it.name) (both (expression [] (decimal it.length)) (pattern [] (pattern_tokens it.pattern))) in
     bound (both (guard (takes_regions draft.stage) Form) parts) (tt, (it.name, (it.length, it.pattern))) (λ p. with_region draft p.1.0 p.1.1.0 p.1.1.1)
     (both_read (guard (takes_regions draft.stage) Form) parts tt (it.name, (it.length, it.pattern)) (held (takes_regions draft.stage) Form stands)
-    (both_read (name [] it.name) (both (expression [] (decimal it.length)) (pattern [] (pattern_words it.pattern))) it.name (it.length, it.pattern) (name_read it.name base)
-    (both_read (expression [] (decimal it.length)) (pattern [] (pattern_words it.pattern)) it.length it.pattern (number_read it.length (omega (arith, room_left))) (pattern_read it.pattern numbers))))
+    (both_read (name [] it.name) (both (expression [] (decimal it.length)) (pattern [] (pattern_tokens it.pattern))) it.name (it.length, it.pattern) (name_read it.name base)
+    (both_read (expression [] (decimal it.length)) (pattern [] (pattern_tokens it.pattern)) it.length it.pattern (number_read it.length (omega (arith, room_left))) (pattern_read it.pattern numbers))))
     ∙ region_put draft it new some fits few room_left
 
 -- ---- domains and entries
@@ -196,7 +196,7 @@ pub domain_done : (draft : DraftModel) (it : Domain) → takes_domains draft dra
     → statement_in [] (domain_statement draft.kinds it) draft ≡ Ok (add_domain (domain_named it.name (parent_of draft.levels) it.retry it.detects) draft)
 unfolding statement_in statement domain_in
 domain_done draft it stands base kinds_few found kinds new fits few deep some_room some most =
-    let set : Result ℕ Wrong = kind_set draft.kinds (kinds_word draft.kinds it.detects) in
+    let set : Result ℕ Wrong = kind_set draft.kinds (kinds_token draft.kinds it.detects) in
     let parts : Result (List ℕ × (ℕ × ℕ)) Wrong = both (name [] it.name) (both (expression [] (decimal it.retry)) set) in
     bound (both (guard (takes_domains draft draft.levels && true) Form) parts) (tt, (it.name, (it.retry, it.detects))) (λ p. with_domain draft p.1.0 p.1.1.0 p.1.1.1)
     (both_read (guard (takes_domains draft draft.levels && true) Form) parts tt (it.name, (it.retry, it.detects))
@@ -205,23 +205,23 @@ domain_done draft it stands base kinds_few found kinds new fits few deep some_ro
     (both_read (expression [] (decimal it.retry)) set it.retry it.detects (number_read it.retry (omega (arith, most))) (set_read draft.kinds it.detects kinds_few found kinds))))
     ∙ domain_put draft it new fits few deep some_room some most
 
-how_read : (h : How) → IsReadHow h → how_in [] (how_words h) ≡ Ok h
+how_read : (h : How) → IsReadHow h → how_in [] (how_tokens h) ≡ Ok h
 unfolding how_in
 how_read how.Copy h = refl
 how_read how.Refer h = refl
-how_read (how.Regen (Const word)) h = bound (pattern [] (pattern_words (Const word))) (Const word) (λ p. Ok (how.Regen p)) (pattern_read (Const word) h)
-how_read (how.Regen (Iota first step)) h = bound (pattern [] (pattern_words (Iota first step))) (Iota first step) (λ p. Ok (how.Regen p)) (pattern_read (Iota first step) h)
-how_read (how.Regen (Mix seed)) h = bound (pattern [] (pattern_words (Mix seed))) (Mix seed) (λ p. Ok (how.Regen p)) (pattern_read (Mix seed) h)
+how_read (how.Regen (Const word)) h = bound (pattern [] (pattern_tokens (Const word))) (Const word) (λ p. Ok (how.Regen p)) (pattern_read (Const word) h)
+how_read (how.Regen (Iota first step)) h = bound (pattern [] (pattern_tokens (Iota first step))) (Iota first step) (λ p. Ok (how.Regen p)) (pattern_read (Iota first step) h)
+how_read (how.Regen (Mix seed)) h = bound (pattern [] (pattern_tokens (Mix seed))) (Mix seed) (λ p. Ok (how.Regen p)) (pattern_read (Mix seed) h)
 
 pub entry_done : (draft : DraftModel) (it : Entry) → takes_entries draft draft.levels ≡ true → IsReadRange draft.regions it.range → IsReadHow it.how
     → entries_of (slice_get draft.domains (innermost draft.levels)) < 64 → draft.preserves < 16384
     → statement_in [] (entry_statement draft.regions it) draft ≡ Ok (add_entry (innermost draft.levels) it draft)
 unfolding statement_in statement preserve_in with_entry_of
 entry_done draft it stands range way few preserves =
-    let parts : Result (Range × How) Wrong = both (range_in [] draft.regions (range_word draft.regions it.range)) (how_in [] (how_words it.how)) in
+    let parts : Result (Range × How) Wrong = both (range_in [] draft.regions (range_token draft.regions it.range)) (how_in [] (how_tokens it.how)) in
     bound (both (guard (takes_entries draft draft.levels) Form) parts) (tt, (it.range, it.how)) (λ p. with_entry_of draft p.1.0 p.1.1)
     (both_read (guard (takes_entries draft draft.levels) Form) parts tt (it.range, it.how) (held (takes_entries draft draft.levels) Form stands)
-    (both_read (range_in [] draft.regions (range_word draft.regions it.range)) (how_in [] (how_words it.how)) it.range it.how (range_read draft.regions it.range range) (how_read it.how way)))
+    (both_read (range_in [] draft.regions (range_token draft.regions it.range)) (how_in [] (how_tokens it.how)) it.range it.how (range_read draft.regions it.range range) (how_read it.how way)))
     ∙ passed
     (room which.Entries 64 (entries_of (slice_get draft.domains (innermost draft.levels))) ∷ room which.Preserves 16384 draft.preserves ∷ [])
     (add_entry (innermost draft.levels) it draft)
@@ -254,13 +254,13 @@ unfolding statement_in statement faults_in striking
 faults_done draft stands = bound (guard (is_closed draft.stage) Form) tt (λ _. Ok (record draft { stage = striking.stage })) (held (is_closed draft.stage) Form stands)
 
 pub strike_done : (draft : DraftModel) (it : RawFault) → takes_strikes draft.stage ≡ true → IsReadPath it.path → it.begin < 2 ^ 64 → it.item < 2 ^ 64
-    → kind draft.kinds (kind_word draft.kinds it.kind) ≡ Ok it.kind → IsReadPlace draft.regions it.place → it.mask < 2 ^ 64 → length draft.faults < 256
+    → kind draft.kinds (kind_token draft.kinds it.kind) ≡ Ok it.kind → IsReadPlace draft.regions it.place → it.mask < 2 ^ 64 → length draft.faults < 256
     → statement_in [] (strike_statement draft.regions draft.kinds it) draft ≡ Ok (record draft { faults = draft.faults ++ it ∷ [] })
 unfolding statement_in statement strike_in time_in damage_in
 strike_done draft it stands road begin point found place mask few =
     let time : Result (ℕ × ℕ) Wrong = both (expression [] (decimal it.begin)) (expression [] (decimal it.item)) in
-    let inner : Result (Place × ℕ) Wrong = both (place_in [] draft.regions (place_word draft.regions it.place)) (expression [] (decimal it.mask)) in
-    let damage : Result (Kind × (Place × ℕ)) Wrong = both (kind draft.kinds (kind_word draft.kinds it.kind)) inner in
+    let inner : Result (Place × ℕ) Wrong = both (place_in [] draft.regions (place_token draft.regions it.place)) (expression [] (decimal it.mask)) in
+    let damage : Result (Kind × (Place × ℕ)) Wrong = both (kind draft.kinds (kind_token draft.kinds it.kind)) inner in
     bound (both (guard (takes_strikes draft.stage) Form) (both (path [] it.path) (both time damage))) (tt, (it.path, ((it.begin, it.item), (it.kind, (it.place, it.mask)))))
     (λ p. with_fault draft (fault_of p.1.0 p.1.1.0.0 p.1.1.0.1 p.1.1.1.0 p.1.1.1.1.0 p.1.1.1.1.1))
     (both_read (guard (takes_strikes draft.stage) Form) (both (path [] it.path) (both time damage)) tt (it.path, ((it.begin, it.item), (it.kind, (it.place, it.mask))))
@@ -268,7 +268,7 @@ strike_done draft it stands road begin point found place mask few =
     (both_read (path [] it.path) (both time damage) it.path ((it.begin, it.item), (it.kind, (it.place, it.mask))) (path_read it.path road)
     (both_read time damage (it.begin, it.item) (it.kind, (it.place, it.mask))
     (both_read (expression [] (decimal it.begin)) (expression [] (decimal it.item)) it.begin it.item (number_read it.begin begin) (number_read it.item point))
-    (both_read (kind draft.kinds (kind_word draft.kinds it.kind)) inner it.kind (it.place, it.mask) found
-    (both_read (place_in [] draft.regions (place_word draft.regions it.place)) (expression [] (decimal it.mask)) it.place it.mask
+    (both_read (kind draft.kinds (kind_token draft.kinds it.kind)) inner it.kind (it.place, it.mask) found
+    (both_read (place_in [] draft.regions (place_token draft.regions it.place)) (expression [] (decimal it.mask)) it.place it.mask
     (place_read draft.regions it.place place) (number_read it.mask mask))))))
     ∙ bound (room which.Faults 256 (length draft.faults)) tt (λ _. Ok (record draft { faults = draft.faults ++ it ∷ [] })) (has_room which.Faults 256 (length draft.faults) few)

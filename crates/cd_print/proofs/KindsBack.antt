@@ -11,14 +11,14 @@ use Rattle.std.proofs.Math.Nat.{mod-eq_of_lt, mod-lt, div-eq_of_lt}
 use Rattle.cd_tree.specs.declared.kinds.Kind.{Kind}
 use Rattle.cd_tree.specs.declared.kinds.KindName.{KindName}
 use Rattle.cd_tree.specs.KindSets.{no_kinds, with_kind, has_kind}
-use Rattle.cd_words.specs.declared.wrong.Wrong.{Wrong}
-use Rattle.cd_words.specs.declared.wrong.Wrong.TheVariants.{Form}
-use Rattle.cd_words.specs.Wrongs.{both, ◌>>=◌}
-use Rattle.cd_words.specs.Sums.{is_name_byte, is_base}
-use Rattle.cd_words.specs.Names.{name, is_slash, slashed, one_more_name, path_on, path}
-use Rattle.cd_words.specs.Kinds.{kind_from, kind, one_more_kind, kinds_on, is_comma, kind_set}
+use Rattle.cd_tokens.specs.declared.wrong.Wrong.{Wrong}
+use Rattle.cd_tokens.specs.declared.wrong.Wrong.TheVariants.{Form}
+use Rattle.cd_tokens.specs.Wrongs.{both, ◌>>=◌}
+use Rattle.cd_tokens.specs.Sums.{is_name_byte, is_base}
+use Rattle.cd_tokens.specs.Names.{name, is_slash, slashed, one_more_name, path_on, path}
+use Rattle.cd_tokens.specs.Kinds.{kind_from, kind, one_more_kind, kinds_on, is_comma, kind_set}
 use Rattle.cd_parse.specs.Draft.{has_kind_named}
-use Rattle.cd_print.specs.Canonical.{kinds_in, names_word, kinds_word}
+use Rattle.cd_print.specs.Canonical.{kinds_in, names_token, kinds_token}
 use Rattle.cd_parse.specs.WellRead.{AreReadKinds, AreBases, IsReadPath}
 use Rattle.cd_print.proofs.Cuts.{chosen, otherwise, No, cut_at, uncut}
 use Rattle.cd_print.proofs.NamesBack.{base_named, base_some, named_pass_not, name_read, same_bytes}
@@ -28,8 +28,8 @@ use Rattle.cd_print.proofs.NamesBack.{base_named, base_some, named_pass_not, nam
 no_slash : (b : ℕ) → is_name_byte b ≡ true → is_slash b ≡ false
 no_slash b e = grind (arith, nat_tests)
 
-base_unslashed : (word : List ℕ) → is_base word ≡ true → No is_slash word
-base_unslashed word e = named_pass_not is_slash no_slash word (base_named word e)
+base_unslashed : (token : List ℕ) → is_base token ≡ true → No is_slash token
+base_unslashed token e = named_pass_not is_slash no_slash token (base_named token e)
 
 path_split : (first : List ℕ) (names : List (List ℕ)) → AreBases (first ∷ names) → slice_split is_slash (join_with_byte 47 (first ∷ names)) ≡ first ∷ names
 path_split first [] h = uncut is_slash first (base_unslashed first h.0)
@@ -56,9 +56,9 @@ path_whole [] names h = absurd (omega (arith, base_some [] h.0))
 path_whole (b ∷ first) names h =
     ap (λ (n : Result (List ℕ) Wrong). path_on [] (one_more_name (Ok []) n) names) (name_read (b ∷ first) h.0) ∙ path_more b first names h.1
 
-pub path_read : (word : List ℕ) → IsReadPath word → path [] word ≡ Ok word
+pub path_read : (token : List ℕ) → IsReadPath token → path [] token ≡ Ok token
 unfolding path
-path_read word r =
+path_read token r =
     ap (λ (w : List ℕ). path_on [] (Ok []) (slice_split is_slash w)) r.joined
     ∙ ap (path_on [] (Ok [])) (path_split r.first r.names r.bases)
     ∙ path_whole r.first r.names r.bases ∙ ap (λ (w : List ℕ). Ok w) (sym r.joined)
@@ -178,37 +178,37 @@ bases_kept set at before (it ∷ kinds) h = by (has_kind set (record { 0 = at })
     by true rest = (h.0, h.1, rest)
     by false rest = rest
 
-base_uncut : (word : List ℕ) → is_base word ≡ true → No is_comma word
-base_uncut word e = named_pass_not is_comma no_comma word (base_named word e)
+base_uncut : (token : List ℕ) → is_base token ≡ true → No is_comma token
+base_uncut token e = named_pass_not is_comma no_comma token (base_named token e)
 
-names_split : (it : KindName) (kinds : List KindName) → AllBases (it ∷ kinds) → slice_split is_comma (names_word (it ∷ kinds)) ≡ map (λ k. k.name) (it ∷ kinds)
+names_split : (it : KindName) (kinds : List KindName) → AllBases (it ∷ kinds) → slice_split is_comma (names_token (it ∷ kinds)) ≡ map (λ k. k.name) (it ∷ kinds)
 names_split it [] h =
     ap (slice_split is_comma) (append-nil it.name) ∙ uncut is_comma it.name (base_uncut it.name h.0)
 names_split it (next ∷ kinds) h =
-    cut_at is_comma it.name 44 (names_word (next ∷ kinds)) (base_uncut it.name h.0) refl
+    cut_at is_comma it.name 44 (names_token (next ∷ kinds)) (base_uncut it.name h.0) refl
     ∙ ap (λ (ws : List (List ℕ)). it.name ∷ ws) (names_split next kinds h.2)
 
-not_none : (it : KindName) (kinds : List KindName) → AllBases (it ∷ kinds) → bytes_eq (names_word (it ∷ kinds)) (codes "none") ≡ false
-not_none it kinds h = by (bytes_eq (names_word (it ∷ kinds)) (codes "none")) refl
+not_none : (it : KindName) (kinds : List KindName) → AllBases (it ∷ kinds) → bytes_eq (names_token (it ∷ kinds)) (codes "none") ≡ false
+not_none it kinds h = by (bytes_eq (names_token (it ∷ kinds)) (codes "none")) refl
   where
-    by : (t : Bool) → bytes_eq (names_word (it ∷ kinds)) (codes "none") ≡ t → t ≡ false
+    by : (t : Bool) → bytes_eq (names_token (it ∷ kinds)) (codes "none") ≡ t → t ≡ false
     by true e =
-        let same : names_word (it ∷ kinds) ≡ codes "none" = (bytes_eq-Decides (names_word (it ∷ kinds)) (codes "none")).0 e in
+        let same : names_token (it ∷ kinds) ≡ codes "none" = (bytes_eq-Decides (names_token (it ∷ kinds)) (codes "none")).0 e in
         let parts : map (λ k. k.name) (it ∷ kinds) ≡ codes "none" ∷ [] = sym (names_split it kinds h) ∙ ap (slice_split is_comma) same in
         absurd (h.1 (ap (λ (ws : List (List ℕ)). elim ws [ [] ↦ [] | w ∷ rest ↦ w ]) parts))
     by false e = refl
 
 set_text : (all : List KindName) (set : ℕ) (found : List KindName) → AllBases found → kinds_on all (Ok 0) (map (λ k. k.name) found) ≡ Ok set
-    → kind_set all (names_word found) ≡ Ok set
+    → kind_set all (names_token found) ≡ Ok set
 unfolding kind_set
 set_text all set [] h e = e
 set_text all set (it ∷ kinds) h e =
-    otherwise (bytes_eq (names_word (it ∷ kinds)) (codes "none")) (Ok no_kinds) (kinds_on all (Ok no_kinds) (slice_split is_comma (names_word (it ∷ kinds)))) (not_none it kinds h)
+    otherwise (bytes_eq (names_token (it ∷ kinds)) (codes "none")) (Ok no_kinds) (kinds_on all (Ok no_kinds) (slice_split is_comma (names_token (it ∷ kinds)))) (not_none it kinds h)
     ∙ ap (kinds_on all (Ok no_kinds)) (names_split it kinds h) ∙ e
 
 -- a set of a document's kinds is read as itself
 pub set_read : (kinds : List KindName) (set : ℕ) → length kinds ≤ 16 → set < 2 ^ length kinds → AreReadKinds [] kinds
-    → kind_set kinds (kinds_word kinds set) ≡ Ok set
+    → kind_set kinds (kinds_token kinds set) ≡ Ok set
 set_read kinds set few small h =
     let size : 0 + length kinds ≡ length kinds = omega arith in
     let none : set % 2 ^ 0 ≡ 0 = omega arith in

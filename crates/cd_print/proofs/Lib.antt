@@ -12,7 +12,7 @@ pub mod TreeViews
 pub mod TreeBack
 pub mod MarksBack
 pub mod DocumentBack
-pub mod WordsBack
+pub mod TokensBack
 pub mod ViewBack
 pub mod ListBack
 pub mod ReadBack

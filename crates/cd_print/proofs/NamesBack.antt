@@ -13,15 +13,15 @@ use Rattle.cd_base.specs.declared.place.Range.{Range}
 use Rattle.cd_base.specs.declared.pattern.Pattern.{Pattern}
 use Rattle.cd_base.specs.declared.pattern.Pattern.TheVariants.{Const, Iota, Mix}
 use Rattle.cd_tree.specs.declared.document.Region.{Region}
-use Rattle.cd_words.specs.declared.wrong.Wrong.{Wrong}
-use Rattle.cd_words.specs.declared.wrong.Wrong.TheVariants.{Form, Outside}
-use Rattle.cd_words.specs.Wrongs.{both, guard, ◌>>=◌}
-use Rattle.cd_words.specs.Sums.{is_letter, is_name_byte, is_base, is_digit, is_dot, expression, bounds_at}
-use Rattle.cd_words.specs.Names.{is_colon, name_at, name}
-use Rattle.cd_words.specs.Kinds.{pattern}
+use Rattle.cd_tokens.specs.declared.wrong.Wrong.{Wrong}
+use Rattle.cd_tokens.specs.declared.wrong.Wrong.TheVariants.{Form, Outside}
+use Rattle.cd_tokens.specs.Wrongs.{both, guard, ◌>>=◌}
+use Rattle.cd_tokens.specs.Sums.{is_letter, is_name_byte, is_base, is_digit, is_dot, expression, bounds_at}
+use Rattle.cd_tokens.specs.Names.{is_colon, name_at, name}
+use Rattle.cd_tokens.specs.Kinds.{pattern}
 use Rattle.cd_parse.specs.Draft.{has_region_named}
 use Rattle.cd_parse.specs.Ranges.{whole, region_from, region_named, region_in, some_words, one_place, is_opening, is_closing, before_closing, bracketed, index_in, part_at, part_in, range_at, range_in, place_at, place_in}
-use Rattle.cd_print.specs.Canonical.{region_word, range_word, place_word, pattern_words}
+use Rattle.cd_print.specs.Canonical.{region_token, range_token, place_token, pattern_tokens}
 use Rattle.cd_parse.specs.WellRead.{IsFound, IsReadRange, IsReadPlace, IsReadPattern}
 use Rattle.cd_print.proofs.Cuts.{chosen, otherwise, No, no_both, found_at, found_nowhere, take_before, drop_behind}
 use Rattle.cd_print.proofs.LinesBack.{Plain}
@@ -50,25 +50,25 @@ named_bytes (b ∷ bytes) e =
 letter_named : (b : ℕ) → is_letter b ≡ true → is_name_byte b ≡ true
 letter_named b e = ap (λ (t : Bool). t || (is_digit b || (b == 95))) e
 
-pub base_named : (word : List ℕ) → is_base word ≡ true → Named word
+pub base_named : (token : List ℕ) → is_base token ≡ true → Named token
 base_named [] e = tt
 base_named (b ∷ bytes) e =
     (letter_named b (and_first (is_letter b) (list_all is_name_byte bytes) e), named_bytes bytes (and_second (is_letter b) (list_all is_name_byte bytes) e))
 
-pub base_some : (word : List ℕ) → is_base word ≡ true → 0 < length word
+pub base_some : (token : List ℕ) → is_base token ≡ true → 0 < length token
 base_some [] e = absurd (cc)
 base_some (b ∷ bytes) e = omega arith
 
 name_plain : (b : ℕ) → is_name_byte b ≡ true → 35 < b
 name_plain b e = grind (arith, nat_tests)
 
-pub named_plain : (word : List ℕ) → Named word → Plain word
+pub named_plain : (token : List ℕ) → Named token → Plain token
 named_plain [] h = tt
-named_plain (b ∷ word) h = (name_plain b h.0, named_plain word h.1)
+named_plain (b ∷ token) h = (name_plain b h.0, named_plain token h.1)
 
-pub named_pass_not : (test : ℕ → Bool) → ((b : ℕ) → is_name_byte b ≡ true → test b ≡ false) → (word : List ℕ) → Named word → No test word
+pub named_pass_not : (test : ℕ → Bool) → ((b : ℕ) → is_name_byte b ≡ true → test b ≡ false) → (token : List ℕ) → Named token → No test token
 named_pass_not test out [] h = tt
-named_pass_not test out (b ∷ word) h = (out b h.0, named_pass_not test out word h.1)
+named_pass_not test out (b ∷ token) h = (out b h.0, named_pass_not test out token h.1)
 
 no_colon : (b : ℕ) → is_name_byte b ≡ true → is_colon b ≡ false
 no_colon b e = grind (arith, nat_tests)
@@ -77,14 +77,14 @@ no_opening : (b : ℕ) → is_name_byte b ≡ true → is_opening b ≡ false
 no_opening b e = grind (arith, nat_tests)
 
 -- a base is read as the name that it is
-pub name_read : (word : List ℕ) → is_base word ≡ true → name [] word ≡ Ok word
+pub name_read : (token : List ℕ) → is_base token ≡ true → name [] token ≡ Ok token
 unfolding name
-name_read word e =
-    ap (name_at [] word) (found_nowhere is_colon word (named_pass_not is_colon no_colon word (base_named word e)))
-    ∙ ap (λ (t : Bool). guard t Form >>= λ _. Ok word) e
+name_read token e =
+    ap (name_at [] token) (found_nowhere is_colon token (named_pass_not is_colon no_colon token (base_named token e)))
+    ∙ ap (λ (t : Bool). guard t Form >>= λ _. Ok token) e
 
-pub same_bytes : (word : List ℕ) → bytes_eq word word ≡ true
-same_bytes word = (bytes_eq-Decides word word).1 refl
+pub same_bytes : (token : List ℕ) → bytes_eq token token ≡ true
+same_bytes token = (bytes_eq-Decides token token).1 refl
 
 -- ---- regions
 
@@ -118,18 +118,18 @@ region_read regions number region f =
     ap (λ (n : Result (List ℕ) Wrong). n >>= region_named regions) (name_read region.name f.name)
     ∙ region_found 0 regions number region number f.there f.first (omega arith)
 
-pub word_of_region : (regions : List Region) (number : ℕ) (region : Region) → IsFound regions number region → region_word regions number ≡ region.name
-word_of_region regions number region f = ap (λ (o : Option Region). option_map_or (λ r. r.name) o []) f.there
+pub token_of_region : (regions : List Region) (number : ℕ) (region : Region) → IsFound regions number region → region_token regions number ≡ region.name
+token_of_region regions number region f = ap (λ (o : Option Region). option_map_or (λ r. r.name) o []) f.there
 
 -- ---- ranges and places
 
 -- what stands in brackets
-bracket_read : (word : List ℕ) → No is_closing word → bracketed (word ++ 93 ∷ []) ≡ Some word
-bracket_read word p =
-    let size : length word + 1 ≡ length (word ++ 93 ∷ []) = omega (arith, length-append word (93 ∷ [])) in
-    ap (before_closing (word ++ 93 ∷ [])) (found_at is_closing word 93 [] p refl)
-    ∙ chosen (length word + 1 == length (word ++ 93 ∷ [])) (Some (take (length word) (word ++ 93 ∷ []))) None (grind (arith, nat_tests))
-    ∙ ap (λ (w : List ℕ). Some w) (take_before word (93 ∷ []))
+bracket_read : (token : List ℕ) → No is_closing token → bracketed (token ++ 93 ∷ []) ≡ Some token
+bracket_read token p =
+    let size : length token + 1 ≡ length (token ++ 93 ∷ []) = omega (arith, length-append token (93 ∷ [])) in
+    ap (before_closing (token ++ 93 ∷ [])) (found_at is_closing token 93 [] p refl)
+    ∙ chosen (length token + 1 == length (token ++ 93 ∷ [])) (Some (take (length token) (token ++ 93 ∷ []))) None (grind (arith, nat_tests))
+    ∙ ap (λ (w : List ℕ). Some w) (take_before token (93 ∷ []))
 
 digit_closes_not : (b : ℕ) → 48 ≤ b → b ≤ 57 → is_closing b ≡ false
 digit_closes_not b low high = grind (arith, nat_tests)
@@ -164,23 +164,23 @@ dotted_closes_not low high h k = no_both is_closing (decimal low) (46 ∷ 46 ∷
 first_opening : (region : Region) (rest : List ℕ) → is_base region.name ≡ true → position is_opening (region.name ++ 91 ∷ rest) ≡ Some (length region.name)
 first_opening region rest e = found_at is_opening region.name 91 rest (named_pass_not is_opening no_opening region.name (base_named region.name e)) refl
 
-in_brackets : (regions : List Region) (region : Region) (word : List ℕ) → is_base region.name ≡ true → No is_closing word
-    → range_in [] regions (region.name ++ 91 ∷ (word ++ 93 ∷ [])) ≡ part_in [] regions region.name (Some word)
+in_brackets : (regions : List Region) (region : Region) (token : List ℕ) → is_base region.name ≡ true → No is_closing token
+    → range_in [] regions (region.name ++ 91 ∷ (token ++ 93 ∷ [])) ≡ part_in [] regions region.name (Some token)
 unfolding range_in
-in_brackets regions region word e p =
-    let whole_word : List ℕ = region.name ++ 91 ∷ (word ++ 93 ∷ []) in
-    ap (range_at [] regions whole_word) (first_opening region (word ++ 93 ∷ []) e)
-    ∙ ap (λ (n : List ℕ). part_in [] regions n (bracketed (drop (length region.name + 1) whole_word))) (take_before region.name (91 ∷ (word ++ 93 ∷ [])))
-    ∙ ap (λ (w : List ℕ). part_in [] regions region.name (bracketed w)) (drop_behind region.name 91 (word ++ 93 ∷ []))
-    ∙ ap (part_in [] regions region.name) (bracket_read word p)
+in_brackets regions region token e p =
+    let whole_token : List ℕ = region.name ++ 91 ∷ (token ++ 93 ∷ []) in
+    ap (range_at [] regions whole_token) (first_opening region (token ++ 93 ∷ []) e)
+    ∙ ap (λ (n : List ℕ). part_in [] regions n (bracketed (drop (length region.name + 1) whole_token))) (take_before region.name (91 ∷ (token ++ 93 ∷ [])))
+    ∙ ap (λ (w : List ℕ). part_in [] regions region.name (bracketed w)) (drop_behind region.name 91 (token ++ 93 ∷ []))
+    ∙ ap (part_in [] regions region.name) (bracket_read token p)
 
-pub range_read : (regions : List Region) (range : Range) → IsReadRange regions range → range_in [] regions (range_word regions range) ≡ Ok range
+pub range_read : (regions : List Region) (range : Range) → IsReadRange regions range → range_in [] regions (range_token regions range) ≡ Ok range
 range_read regions range r =
     let small : r.region.length ≤ 1048576 = r.found.size in
     let bound : range.high ≤ r.region.length = r.within in
     let order : range.low < range.high = r.some in
     let rest : List ℕ = codes "[" ++ (decimal range.low ++ (codes ".." ++ (decimal range.high ++ codes "]"))) in
-    ap (λ (n : List ℕ). range_in [] regions (n ++ rest)) (word_of_region regions range.region r.region r.found)
+    ap (λ (n : List ℕ). range_in [] regions (n ++ rest)) (token_of_region regions range.region r.region r.found)
     ∙ ap (λ (w : List ℕ). range_in [] regions (r.region.name ++ 91 ∷ w)) (sym (append_assoc (decimal range.low) (46 ∷ 46 ∷ decimal range.high) (93 ∷ [])))
     ∙ in_brackets regions r.region (dotted range.low range.high) r.found.name (dotted_closes_not range.low range.high (omega arith) (omega arith))
     ∙ part_read regions r.region range.region range.low range.high r.found r.some r.within
@@ -194,23 +194,23 @@ index_read regions place r =
     ∙ ap (λ (n : Result ℕ Wrong). both (Ok (whole place.region r.region)) n >>= λ p. one_place p.0 p.1) (number_read place.index (omega arith))
     ∙ chosen (nat_lt place.index r.region.length) (Ok place) (Err Outside) (grind (arith, nat_tests))
 
-pub place_read : (regions : List Region) (place : Place) → IsReadPlace regions place → place_in [] regions (place_word regions place) ≡ Ok place
+pub place_read : (regions : List Region) (place : Place) → IsReadPlace regions place → place_in [] regions (place_token regions place) ≡ Ok place
 unfolding place_in
 place_read regions place r =
     let small : r.region.length ≤ 1048576 = r.found.size in
     let bound : place.index < r.region.length = r.within in
     let rest : List ℕ = decimal place.index ++ 93 ∷ [] in
-    let word : List ℕ = r.region.name ++ 91 ∷ rest in
-    ap (λ (n : List ℕ). place_at [] regions (n ++ 91 ∷ rest) (position is_opening (n ++ 91 ∷ rest))) (word_of_region regions place.region r.region r.found)
-    ∙ ap (place_at [] regions word) (first_opening r.region rest r.found.name)
-    ∙ ap (λ (n : List ℕ). index_in [] regions n (bracketed (drop (length r.region.name + 1) word))) (take_before r.region.name (91 ∷ rest))
+    let token : List ℕ = r.region.name ++ 91 ∷ rest in
+    ap (λ (n : List ℕ). place_at [] regions (n ++ 91 ∷ rest) (position is_opening (n ++ 91 ∷ rest))) (token_of_region regions place.region r.region r.found)
+    ∙ ap (place_at [] regions token) (first_opening r.region rest r.found.name)
+    ∙ ap (λ (n : List ℕ). index_in [] regions n (bracketed (drop (length r.region.name + 1) token))) (take_before r.region.name (91 ∷ rest))
     ∙ ap (λ (w : List ℕ). index_in [] regions r.region.name (bracketed w)) (drop_behind r.region.name 91 rest)
     ∙ ap (index_in [] regions r.region.name) (bracket_read (decimal place.index) (number_closes_not place.index (omega arith)))
     ∙ index_read regions place r
 
 -- ---- patterns
 
-pub pattern_read : (p : Pattern) → IsReadPattern p → pattern [] (pattern_words p) ≡ Ok p
+pub pattern_read : (p : Pattern) → IsReadPattern p → pattern [] (pattern_tokens p) ≡ Ok p
 unfolding pattern
 pattern_read (Const word) h = ap (λ (r : Result ℕ Wrong). r >>= λ n. Ok (Const n)) (number_read word h)
 pattern_read (Iota first step) h =

@@ -5,10 +5,10 @@ use Rattle.std.specs.Fmt.{decimal}
 use Rattle.std.specs.List.{list_all, position}
 use Rattle.std.proofs.lemmas.Bool.Decides.{nat_tests}
 use Rattle.std.proofs.lemmas.Fmt.{decimal_by_steps}
-use Rattle.cd_words.specs.declared.wrong.Wrong.{Wrong}
-use Rattle.cd_words.specs.declared.wrong.Wrong.TheVariants.{Form, Overflow}
-use Rattle.cd_words.specs.Wrongs.{both, ◌>>=◌}
-use Rattle.cd_words.specs.Sums.{is_digit, in_64_bits, value_after, value_of, atom, is_times, times, product_on, term, is_sign, Part, put_byte, cut_at_signs, joined, plus, sum_on, expression, is_dot, behind_dot, two_numbers, bounds_at}
+use Rattle.cd_tokens.specs.declared.wrong.Wrong.{Wrong}
+use Rattle.cd_tokens.specs.declared.wrong.Wrong.TheVariants.{Form, Overflow}
+use Rattle.cd_tokens.specs.Wrongs.{both, ◌>>=◌}
+use Rattle.cd_tokens.specs.Sums.{is_digit, in_64_bits, value_after, value_of, atom, is_times, times, product_on, term, is_sign, Part, put_byte, cut_at_signs, joined, plus, sum_on, expression, is_dot, behind_dot, two_numbers, bounds_at}
 use Rattle.cd_print.proofs.Cuts.{chosen, otherwise, No, uncut, found_at, take_before, drop_behind}
 use Rattle.cd_print.proofs.LinesBack.{Plain}
 
@@ -107,7 +107,7 @@ sum_read : (digits : List ℕ) (n : ℕ) → n < 2 ^ 64 → Says n digits → ex
 unfolding expression plus
 sum_read digits n h s =
     let none : 0 + n ≡ n = omega arith in
-    ap (λ (cut : List ℕ × List Part). sum_on [] (Ok 0) (record { sign = 43; word = cut.0 } ∷ cut.1)) (signs_not digits s.shape)
+    ap (λ (cut : List ℕ × List Part). sum_on [] (Ok 0) (record { sign = 43; token = cut.0 } ∷ cut.1)) (signs_not digits s.shape)
     ∙ ap (λ (t : Result ℕ Wrong). both (Ok 0) t >>= λ p. joined 43 p.0 p.1) (term_read digits n h s)
     ∙ ap in_64_bits none ∙ fits_64 n h
 
@@ -122,7 +122,7 @@ first_dot low rest h = found_at is_dot (decimal low) 46 rest (digits_pass_not is
 pub bounds_read : (low high : ℕ) → low < 2 ^ 64 → high < 2 ^ 64
     → bounds_at [] (decimal low ++ 46 ∷ 46 ∷ decimal high) (Some (length (decimal low))) ≡ Ok (low, high)
 bounds_read low high h k =
-    ap (λ (word : List ℕ). two_numbers [] word (behind_dot (drop (length (decimal low) + 1) (decimal low ++ 46 ∷ 46 ∷ decimal high)))) (take_before (decimal low) (46 ∷ 46 ∷ decimal high))
+    ap (λ (token : List ℕ). two_numbers [] token (behind_dot (drop (length (decimal low) + 1) (decimal low ++ 46 ∷ 46 ∷ decimal high)))) (take_before (decimal low) (46 ∷ 46 ∷ decimal high))
     ∙ ap (λ (rest : List ℕ). two_numbers [] (decimal low) (behind_dot rest)) (drop_behind (decimal low) 46 (46 ∷ decimal high))
     ∙ ap (λ (r : Result ℕ Wrong). both r (expression [] (decimal high))) (number_read low h)
     ∙ ap (λ (r : Result ℕ Wrong). both (Ok low) r) (number_read high k)

@@ -10,15 +10,15 @@ use Rattle.cd_tree.specs.declared.operation.Op.{Op}
 use Rattle.cd_tree.specs.declared.operation.Op.TheVariants.{Fill, Copy, Add, Sub, Mul, Axpy, Scan, Sum, Dot, Max, Stencil, Spmv}
 use Rattle.cd_tree.specs.declared.refusal.Which.{Which}
 use Rattle.cd_tree.specs.declared.refusal.Which.TheVariants.{Items}
-use Rattle.cd_words.specs.declared.wrong.Wrong.{Wrong}
-use Rattle.cd_words.specs.declared.wrong.Wrong.TheVariants.{Form, Unfit, Limit}
-use Rattle.cd_words.specs.Wrongs.{both, guard, room, all_hold, ◌>>=◌}
-use Rattle.cd_words.specs.Sums.{expression}
+use Rattle.cd_tokens.specs.declared.wrong.Wrong.{Wrong}
+use Rattle.cd_tokens.specs.declared.wrong.Wrong.TheVariants.{Form, Unfit, Limit}
+use Rattle.cd_tokens.specs.Wrongs.{both, guard, room, all_hold, ◌>>=◌}
+use Rattle.cd_tokens.specs.Sums.{expression}
 use Rattle.cd_parse.specs.Draft.{DraftModel, takes_items, add_item, innermost}
 use Rattle.cd_parse.specs.Ranges.{range_in}
 use Rattle.cd_parse.specs.Operations.{two_ranges, three_ranges, fill_in, axpy_in, weights, stencil_in, spmv_in, short_op, long_op, op_in, fits}
 use Rattle.cd_parse.specs.Statements.{with_op, operation_in, statement, statement_in}
-use Rattle.cd_print.specs.Canonical.{range_word, op_statement}
+use Rattle.cd_print.specs.Canonical.{range_token, op_statement}
 use Rattle.cd_parse.specs.WellRead.{IsReadRange, IsReadOp}
 use Rattle.cd_print.proofs.NumbersBack.{number_read}
 use Rattle.cd_print.proofs.NamesBack.{range_read}
@@ -40,17 +40,17 @@ pub held : (test : Bool) (wrong : Wrong) → test ≡ true → guard test wrong 
 held test wrong e = ap (λ (t : Bool). guard t wrong) e
 
 two_read : (regions : List Region) (d x : Range) → IsReadRange regions d → IsReadRange regions x
-    → two_ranges [] regions (range_word regions d ∷ range_word regions x ∷ []) ≡ Ok (d, x)
+    → two_ranges [] regions (range_token regions d ∷ range_token regions x ∷ []) ≡ Ok (d, x)
 unfolding two_ranges
-two_read regions d x p q = both_read (range_in [] regions (range_word regions d)) (range_in [] regions (range_word regions x)) d x (range_read regions d p) (range_read regions x q)
+two_read regions d x p q = both_read (range_in [] regions (range_token regions d)) (range_in [] regions (range_token regions x)) d x (range_read regions d p) (range_read regions x q)
 
 three_read : (regions : List Region) (d x z : Range) → IsReadRange regions d → IsReadRange regions x → IsReadRange regions z
-    → three_ranges [] regions (range_word regions d ∷ range_word regions x ∷ range_word regions z ∷ []) ≡ Ok (d, (x, z))
+    → three_ranges [] regions (range_token regions d ∷ range_token regions x ∷ range_token regions z ∷ []) ≡ Ok (d, (x, z))
 unfolding three_ranges
 three_read regions d x z p q r =
-    both_read (range_in [] regions (range_word regions d)) (both (range_in [] regions (range_word regions x)) (range_in [] regions (range_word regions z))) d (x, z)
+    both_read (range_in [] regions (range_token regions d)) (both (range_in [] regions (range_token regions x)) (range_in [] regions (range_token regions z))) d (x, z)
     (range_read regions d p)
-    (both_read (range_in [] regions (range_word regions x)) (range_in [] regions (range_word regions z)) x z (range_read regions x q) (range_read regions z r))
+    (both_read (range_in [] regions (range_token regions x)) (range_in [] regions (range_token regions z)) x z (range_read regions x q) (range_read regions z r))
 
 -- an operation whose parts are read, where it may stand and where there is room for it
 finish : (draft : DraftModel) (parts : Result Op Wrong) (op : Op) → parts ≡ Ok op → takes_items draft.levels ≡ true → fits op ≡ true → draft.items < 16384
@@ -63,30 +63,30 @@ finish draft parts op e stands shape few =
     ∙ ap (λ (t : Result (Unit {0}) Wrong). all_hold (Ok tt ∷ t ∷ []) >>= λ _. Ok (add_item (innermost draft.levels) (Run op) draft)) (has_room Items 16384 draft.items few)
 
 short : (regions : List Region) (keyword : List ℕ) (d x : Range) → IsReadRange regions d → IsReadRange regions x
-    → (two_ranges [] regions (range_word regions d ∷ range_word regions x ∷ []) >>= λ p. short_op keyword p.0 p.1) ≡ short_op keyword d x
+    → (two_ranges [] regions (range_token regions d ∷ range_token regions x ∷ []) >>= λ p. short_op keyword p.0 p.1) ≡ short_op keyword d x
 short regions keyword d x p q =
-    bound (two_ranges [] regions (range_word regions d ∷ range_word regions x ∷ [])) (d, x) (λ p. short_op keyword p.0 p.1) (two_read regions d x p q)
+    bound (two_ranges [] regions (range_token regions d ∷ range_token regions x ∷ [])) (d, x) (λ p. short_op keyword p.0 p.1) (two_read regions d x p q)
 
 long : (regions : List Region) (keyword : List ℕ) (d x z : Range) → IsReadRange regions d → IsReadRange regions x → IsReadRange regions z
-    → (three_ranges [] regions (range_word regions d ∷ range_word regions x ∷ range_word regions z ∷ []) >>= λ p. long_op keyword p.0 p.1.0 p.1.1) ≡ long_op keyword d x z
+    → (three_ranges [] regions (range_token regions d ∷ range_token regions x ∷ range_token regions z ∷ []) >>= λ p. long_op keyword p.0 p.1.0 p.1.1) ≡ long_op keyword d x z
 long regions keyword d x z p q r =
-    bound (three_ranges [] regions (range_word regions d ∷ range_word regions x ∷ range_word regions z ∷ [])) (d, (x, z)) (λ p. long_op keyword p.0 p.1.0 p.1.1)
+    bound (three_ranges [] regions (range_token regions d ∷ range_token regions x ∷ range_token regions z ∷ [])) (d, (x, z)) (λ p. long_op keyword p.0 p.1.0 p.1.1)
     (three_read regions d x z p q r)
 
 fill_read : (regions : List Region) (d : Range) (k : ℕ) → IsReadRange regions d → k < 2 ^ 64
-    → fill_in [] regions (range_word regions d ∷ decimal k ∷ []) ≡ Ok (Fill d k)
+    → fill_in [] regions (range_token regions d ∷ decimal k ∷ []) ≡ Ok (Fill d k)
 unfolding fill_in
 fill_read regions d k p h =
-    bound (both (range_in [] regions (range_word regions d)) (expression [] (decimal k))) (d, k) (λ p. Ok (Fill p.0 p.1))
-    (both_read (range_in [] regions (range_word regions d)) (expression [] (decimal k)) d k (range_read regions d p) (number_read k h))
+    bound (both (range_in [] regions (range_token regions d)) (expression [] (decimal k))) (d, k) (λ p. Ok (Fill p.0 p.1))
+    (both_read (range_in [] regions (range_token regions d)) (expression [] (decimal k)) d k (range_read regions d p) (number_read k h))
 
 axpy_read : (regions : List Region) (d : Range) (k : ℕ) (x : Range) → IsReadRange regions d → k < 2 ^ 64 → IsReadRange regions x
-    → axpy_in [] regions (range_word regions d ∷ decimal k ∷ range_word regions x ∷ []) ≡ Ok (Axpy d k x)
+    → axpy_in [] regions (range_token regions d ∷ decimal k ∷ range_token regions x ∷ []) ≡ Ok (Axpy d k x)
 unfolding axpy_in
 axpy_read regions d k x p h q =
-    bound (both (range_in [] regions (range_word regions d)) (both (expression [] (decimal k)) (range_in [] regions (range_word regions x)))) (d, (k, x)) (λ p. Ok (Axpy p.0 p.1.0 p.1.1))
-    (both_read (range_in [] regions (range_word regions d)) (both (expression [] (decimal k)) (range_in [] regions (range_word regions x))) d (k, x) (range_read regions d p)
-    (both_read (expression [] (decimal k)) (range_in [] regions (range_word regions x)) k x (number_read k h) (range_read regions x q)))
+    bound (both (range_in [] regions (range_token regions d)) (both (expression [] (decimal k)) (range_in [] regions (range_token regions x)))) (d, (k, x)) (λ p. Ok (Axpy p.0 p.1.0 p.1.1))
+    (both_read (range_in [] regions (range_token regions d)) (both (expression [] (decimal k)) (range_in [] regions (range_token regions x))) d (k, x) (range_read regions d p)
+    (both_read (expression [] (decimal k)) (range_in [] regions (range_token regions x)) k x (number_read k h) (range_read regions x q)))
 
 weights_read : (a b c : ℕ) → a < 2 ^ 64 → b < 2 ^ 64 → c < 2 ^ 64 → weights [] (decimal a) (decimal b) (decimal c) ≡ Ok (a, (b, c))
 unfolding weights
@@ -95,29 +95,29 @@ weights_read a b c p q r =
     (both_read (expression [] (decimal b)) (expression [] (decimal c)) b c (number_read b q) (number_read c r))
 
 stencil_read : (regions : List Region) (d : Range) (a b c : ℕ) (x : Range) → IsReadRange regions d → a < 2 ^ 64 → b < 2 ^ 64 → c < 2 ^ 64 → IsReadRange regions x
-    → stencil_in [] regions (range_word regions d ∷ decimal a ∷ decimal b ∷ decimal c ∷ range_word regions x ∷ []) ≡ Ok (Stencil d a b c x)
+    → stencil_in [] regions (range_token regions d ∷ decimal a ∷ decimal b ∷ decimal c ∷ range_token regions x ∷ []) ≡ Ok (Stencil d a b c x)
 unfolding stencil_in
 stencil_read regions d a b c x p h i j q =
-    bound (both (range_in [] regions (range_word regions d)) (both (weights [] (decimal a) (decimal b) (decimal c)) (range_in [] regions (range_word regions x)))) (d, ((a, (b, c)), x))
+    bound (both (range_in [] regions (range_token regions d)) (both (weights [] (decimal a) (decimal b) (decimal c)) (range_in [] regions (range_token regions x)))) (d, ((a, (b, c)), x))
     (λ p. Ok (Stencil p.0 p.1.0.0 p.1.0.1.0 p.1.0.1.1 p.1.1))
-    (both_read (range_in [] regions (range_word regions d)) (both (weights [] (decimal a) (decimal b) (decimal c)) (range_in [] regions (range_word regions x))) d ((a, (b, c)), x)
+    (both_read (range_in [] regions (range_token regions d)) (both (weights [] (decimal a) (decimal b) (decimal c)) (range_in [] regions (range_token regions x))) d ((a, (b, c)), x)
     (range_read regions d p)
-    (both_read (weights [] (decimal a) (decimal b) (decimal c)) (range_in [] regions (range_word regions x)) (a, (b, c)) x (weights_read a b c h i j) (range_read regions x q)))
+    (both_read (weights [] (decimal a) (decimal b) (decimal c)) (range_in [] regions (range_token regions x)) (a, (b, c)) x (weights_read a b c h i j) (range_read regions x q)))
 
 spmv_read : (regions : List Region) (d s c v x : Range) → IsReadRange regions d → IsReadRange regions s → IsReadRange regions c → IsReadRange regions v → IsReadRange regions x
-    → spmv_in [] regions (range_word regions d ∷ range_word regions s ∷ range_word regions c ∷ range_word regions v ∷ range_word regions x ∷ []) ≡ Ok (Spmv d s c v x)
+    → spmv_in [] regions (range_token regions d ∷ range_token regions s ∷ range_token regions c ∷ range_token regions v ∷ range_token regions x ∷ []) ≡ Ok (Spmv d s c v x)
 unfolding spmv_in
 spmv_read regions d s c v x p q r t u =
-    let three : Result (Range × (Range × Range)) Wrong = three_ranges [] regions (range_word regions c ∷ range_word regions v ∷ range_word regions x ∷ []) in
-    bound (both (range_in [] regions (range_word regions d)) (both (range_in [] regions (range_word regions s)) three)) (d, (s, (c, (v, x)))) (λ p. Ok (Spmv p.0 p.1.0 p.1.1.0 p.1.1.1.0 p.1.1.1.1))
-    (both_read (range_in [] regions (range_word regions d)) (both (range_in [] regions (range_word regions s)) three) d (s, (c, (v, x))) (range_read regions d p)
-    (both_read (range_in [] regions (range_word regions s)) three s (c, (v, x)) (range_read regions s q) (three_read regions c v x r t u)))
+    let three : Result (Range × (Range × Range)) Wrong = three_ranges [] regions (range_token regions c ∷ range_token regions v ∷ range_token regions x ∷ []) in
+    bound (both (range_in [] regions (range_token regions d)) (both (range_in [] regions (range_token regions s)) three)) (d, (s, (c, (v, x)))) (λ p. Ok (Spmv p.0 p.1.0 p.1.1.0 p.1.1.1.0 p.1.1.1.1))
+    (both_read (range_in [] regions (range_token regions d)) (both (range_in [] regions (range_token regions s)) three) d (s, (c, (v, x))) (range_read regions d p)
+    (both_read (range_in [] regions (range_token regions s)) three s (c, (v, x)) (range_read regions s q) (three_read regions c v x r t u)))
 
--- the parts of an operation, as a statement of its words gives them
+-- the parts of an operation, as a statement of its tokens gives them
 pub op_done : (draft : DraftModel) (op : Op) → IsReadOp draft.regions op → takes_items draft.levels ≡ true → fits op ≡ true → draft.items < 16384
     → statement_in [] (op_statement draft.regions op) draft ≡ Ok (add_item (innermost draft.levels) (Run op) draft)
 unfolding statement_in statement operation_in op_in
-op_done draft (Fill d k) h stands shape few = finish draft (fill_in [] draft.regions (range_word draft.regions d ∷ decimal k ∷ [])) (Fill d k) (fill_read draft.regions d k h.0 h.1) stands shape few
+op_done draft (Fill d k) h stands shape few = finish draft (fill_in [] draft.regions (range_token draft.regions d ∷ decimal k ∷ [])) (Fill d k) (fill_read draft.regions d k h.0 h.1) stands shape few
 op_done draft (Copy d x) h stands shape few = finish draft _ (Copy d x) (short draft.regions (codes "copy") d x h.0 h.1) stands shape few
 op_done draft (Add d x z) h stands shape few = finish draft _ (Add d x z) (long draft.regions (codes "add") d x z h.0 h.1 h.2) stands shape few
 op_done draft (Sub d x z) h stands shape few = finish draft _ (Sub d x z) (long draft.regions (codes "sub") d x z h.0 h.1 h.2) stands shape few

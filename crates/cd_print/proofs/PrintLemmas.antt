@@ -7,11 +7,11 @@ use Rattle.cd_tree.specs.declared.domain.Item.TheVariants.{Run, Group}
 use Rattle.cd_tree.specs.declared.document.Region.{Region}
 use Rattle.cd_tree.specs.declared.kinds.KindName.{KindName}
 use Rattle.cd_tree.specs.Domains.{Node, Members, no_more, put_first, members_by, body_by}
-use Rattle.cd_print.specs.Canonical.{Statement, line, lines, names_word, grouped, body_statements, member_statements, node_statements}
+use Rattle.cd_print.specs.Canonical.{Statement, line, lines, names_token, grouped, body_statements, member_statements, node_statements}
 
 -- what is still to come of the names of some kinds, where none was written yet or some were
 abbrev pub names_left : Bool → List KindName → List ℕ
-names_left true kinds = names_word kinds
+names_left true kinds = names_token kinds
 names_left false kinds = flat_map (λ kind. codes "," ++ kind.name) kinds
 
 -- the lines of two lists of statements, one after another

@@ -15,7 +15,7 @@ use Rattle.cd_tree.specs.Domains.{Node, node, Body, stop, run, group, Members, n
 use Rattle.cd_parse.specs.Draft.{DraftModel, no_draft, takes_regions, is_closed, may_end, document_of}
 use Rattle.cd_print.specs.Canonical.{Statement, end_statement, entry_statement, kind_statement, region_statement, strike_statement, grouped, node_statements, body_statements, member_statements, kind_statements, fault_statements, statements, canonical, lifted}
 use Rattle.cd_parse.specs.WellRead.{AreReadKinds, AreReadFaults, FitsVersion, WellRead}
-use Rattle.cd_parse.specs.Reading.{parse}
+use Rattle.cd_parse.specs.Parsing.{parse}
 use Rattle.cd_print.proofs.LinesBack.{AreStatements, statements_both}
 use Rattle.cd_print.proofs.ReadsBack.{counting, Do, do_both, text_read}
 use Rattle.cd_print.proofs.HeadsBack.{in_first, in_second, first_version, second_version, striking, striking_takes, striking_ends, faults_done}
@@ -24,7 +24,7 @@ use Rattle.cd_print.proofs.TreeViews.{AreFresh, id_of, flat_node, flat_body, fla
 use Rattle.cd_print.proofs.TreeBack.{CanStand, behind_node, node_do}
 use Rattle.cd_print.proofs.MarksBack.{document_marked}
 use Rattle.cd_print.proofs.DocumentBack.{kinds_do, staged, with_regions, regions_do, faults_do}
-use Rattle.cd_print.proofs.WordsBack.{node_words, regions_words, version_words, named_words, strikes_words}
+use Rattle.cd_print.proofs.TokensBack.{node_tokens, regions_tokens, version_tokens, named_tokens, strikes_tokens}
 use Rattle.cd_print.proofs.ViewBack.{Seen, GoUp, go_up, node_told, node_sums}
 use Rattle.cd_print.proofs.ListBack.{flat_is, siblings_fresh}
 
@@ -250,13 +250,13 @@ clean document view w =
     let regions : List Region = document.regions in
     let kinds : List KindName = document.tree.kinds in
     let root : Node = root_of document.tree.domains in (
-      version_words document.version (small_version document.version kinds w.version),
-      statements_both (kind_statements document.version kinds) (rest_of document) (named_words kinds (document.version == 1) w.kinds)
+      version_tokens document.version (small_version document.version kinds w.version),
+      statements_both (kind_statements document.version kinds) (rest_of document) (named_tokens kinds (document.version == 1) w.kinds)
           (statements_both (map region_statement regions) (node_statements regions kinds root ++ fault_statements regions kinds document.faults)
-          (regions_words [] 0 regions w.regions)
+          (regions_tokens [] 0 regions w.regions)
           (statements_both (node_statements regions kinds root) (fault_statements regions kinds document.faults)
-          (node_words regions kinds 0 None 0 root (record { few = w.tree.few_kinds; read = w.kinds }) (root_told document view w))
-          (strikes_words regions kinds document.faults w.kinds w.faults))),
+          (node_tokens regions kinds 0 None 0 root (record { few = w.tree.few_kinds; read = w.kinds }) (root_told document view w))
+          (strikes_tokens regions kinds document.faults w.kinds w.faults))),
     )
 
 kinds_lines : (kinds : List KindName) (t : Bool) → length (cond t [] (map kind_statement kinds)) ≤ length kinds

@@ -3,16 +3,16 @@ use Rattle.std.proofs.Common.{◌≡◌, ℕ, ◌+◌, ◌<◌, ◌≤◌, Bool,
 use Rattle.std.specs.Prelude.{Result, Ok, Err}
 use Rattle.std.proofs.lemmas.Bool.Decides.{nat_tests}
 use Rattle.cd_tree.specs.declared.refusal.Refusal.{Refusal}
-use Rattle.cd_words.specs.declared.wrong.Wrong.{Wrong}
-use Rattle.cd_words.specs.declared.lines.Line.{Line}
-use Rattle.cd_words.specs.declared.lines.Role.TheVariants.{Says}
-use Rattle.cd_words.specs.Wrongs.{at_line, ◌>>=◌}
-use Rattle.cd_words.specs.Lines as text
-use Rattle.cd_words.specs.Lines.{words}
-use Rattle.cd_words.specs.Blocks.{mark, Marks, no_marks, marked_as, mark_line, marked, marked_lines, line_of, here, blocks}
+use Rattle.cd_tokens.specs.declared.wrong.Wrong.{Wrong}
+use Rattle.cd_tokens.specs.declared.lines.Line.{Line}
+use Rattle.cd_tokens.specs.declared.lines.Role.TheVariants.{Says}
+use Rattle.cd_tokens.specs.Wrongs.{at_line, ◌>>=◌}
+use Rattle.cd_tokens.specs.Lines as text
+use Rattle.cd_tokens.specs.Lines.{tokens}
+use Rattle.cd_tokens.specs.Blocks.{mark, Marks, no_marks, marked_as, mark_line, marked, marked_lines, line_of, here, blocks}
 use Rattle.cd_parse.specs.Draft.{DraftModel, no_draft, may_end, document_of}
 use Rattle.cd_parse.specs.Statements.{statement_in}
-use Rattle.cd_parse.specs.Reading.{counted, taken, read, ended, parse}
+use Rattle.cd_parse.specs.Parsing.{counted, taken, read, ended, parse}
 use Rattle.cd_print.specs.Canonical.{Statement, lines}
 use Rattle.cd_print.proofs.Cuts.{chosen}
 use Rattle.cd_print.proofs.LinesBack.{AreStatements, lines_back}
@@ -22,7 +22,7 @@ use Rattle.cd_print.proofs.LinesBack.{AreStatements, lines_back}
 -- the statement's line closes and opens no loop, and leaves these blocks open
 abbrev pub IsMarked : List Bool → Statement → List Bool → Type 0
 IsMarked before [] behind = ⊥
-IsMarked before (keyword ∷ words) behind = mark before keyword words ≡ Some (record { role = Says; behind = behind })
+IsMarked before (keyword ∷ tokens) behind = mark before keyword tokens ≡ Some (record { role = Says; behind = behind })
 
 abbrev pub AreMarked : List Bool → List Statement → List Bool → Type 0
 AreMarked before [] behind = before ≡ behind
@@ -43,7 +43,7 @@ one_marked : (number : ℕ) (statement : Statement) (found : List Line) (before 
     → mark_line number statement (record { lines = found; before = before })
     ≡ Ok (record { lines = found ++ line_of number Says statement ∷ []; before = behind })
 one_marked number [] found before behind h = absurd h
-one_marked number (keyword ∷ words) found before behind h = ap (marked_as number (keyword ∷ words) (record { lines = found; before = before })) h
+one_marked number (keyword ∷ tokens) found before behind h = ap (marked_as number (keyword ∷ tokens) (record { lines = found; before = before })) h
 
 all_marked : (statements : List Statement) (number : ℕ) (found : List Line) (before : List Bool) → AreMarked before statements []
     → marked number (record { lines = found; before = before }) statements ≡ Ok (found ++ said_lines number statements)
@@ -106,7 +106,7 @@ pub text_read : (statements : List Statement) (draft : DraftModel) → AreStatem
 unfolding parse marked_lines
 text_read statements draft clean marks does few ends =
     let number : ℕ = length (text.lines (lines statements)) + 1 in
-    let layout : marked 1 no_marks (map words (text.lines (lines statements))) ≡ Ok (said_lines 1 statements) =
+    let layout : marked 1 no_marks (map tokens (text.lines (lines statements))) ≡ Ok (said_lines 1 statements) =
     ap (marked 1 no_marks) (lines_back statements clean) ∙ all_marked statements 1 [] [] marks in
     ap (λ (ls : Result (List Line) Refusal). (ls >>= λ found. read (here (blocks found)) [] no_draft >>= ended number) >>= λ d. Ok (document_of d)) layout
     ∙ ap (λ (step : Result DraftModel Refusal). (step >>= ended number) >>= λ d. Ok (document_of d)) (all_read statements 1 0 no_draft draft (omega (arith, few)) does)

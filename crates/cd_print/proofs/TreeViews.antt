@@ -8,7 +8,7 @@ use Rattle.cd_tree.specs.declared.domain.Item.TheVariants.{Run, Group}
 use Rattle.cd_tree.specs.declared.domain.Domain.{Domain}
 use Rattle.cd_tree.specs.declared.kinds.KindName.{KindName}
 use Rattle.cd_tree.specs.Domains.{Node, node, Body, stop, run, group, Members, no_more, member}
-use Rattle.cd_words.specs.Sums.{is_base}
+use Rattle.cd_tokens.specs.Sums.{is_base}
 use Rattle.cd_parse.specs.Draft.{changed, has_child_named, is_parent}
 use Rattle.cd_parse.specs.Operations.{fits}
 use Rattle.cd_parse.specs.WellRead.{IsReadOp, AreReadEntries}

@@ -1,4 +1,4 @@
--- The canonical text of a document: its statements as lists of words, one line for each.
+-- The canonical text of a document: its statements as lists of tokens, one line for each.
 use Rattle.std.specs.Prelude.{ℕ, ◌+◌, ◌==◌, List, [], ◌∷◌, ◌++◌, map, slice_get, if◌then◌else◌, codes, decimal}
 use Rattle.std.specs.List.{join_by, flat_map}
 use Rattle.std.specs.Option.{option_map_or}
@@ -22,38 +22,38 @@ use Rattle.cd_tree.specs.Domains.{Node, node, Body, stop, run, group, Members, n
 
 -- ---- the text of statements
 
--- the words of a line
+-- the tokens of a line
 abbrev pub Statement : Type 0
 Statement = List (List ℕ)
 
--- a statement's line: its words with a space between each two, and a line feed
+-- a statement's line: its tokens with a space between each two, and a line feed
 abbrev pub line : Statement → List ℕ
 line [] = codes "\n"
-line (word ∷ []) = word ++ codes "\n"
-line (word ∷ next ∷ words) = word ++ 32 ∷ line (next ∷ words)
+line (token ∷ []) = token ++ codes "\n"
+line (token ∷ next ∷ tokens) = token ++ 32 ∷ line (next ∷ tokens)
 
 abbrev pub lines : List Statement → List ℕ
 lines statements = flat_map line statements
 
--- ---- words
+-- ---- tokens
 
 -- the name of the region with this number; no bytes where there is none
-abbrev pub region_word : List Region → ℕ → List ℕ
-region_word regions number = option_map_or (λ region. region.name) (slice_get regions number) []
+abbrev pub region_token : List Region → ℕ → List ℕ
+region_token regions number = option_map_or (λ region. region.name) (slice_get regions number) []
 
 -- NAME[LOW..HIGH]
-abbrev pub range_word : List Region → Range → List ℕ
-range_word regions range =
-    region_word regions range.region
+abbrev pub range_token : List Region → Range → List ℕ
+range_token regions range =
+    region_token regions range.region
     ++ (codes "[" ++ (decimal range.low ++ (codes ".." ++ (decimal range.high ++ codes "]"))))
 
 -- NAME[INDEX]
-abbrev pub place_word : List Region → Place → List ℕ
-place_word regions place = region_word regions place.region ++ (codes "[" ++ (decimal place.index ++ codes "]"))
+abbrev pub place_token : List Region → Place → List ℕ
+place_token regions place = region_token regions place.region ++ (codes "[" ++ (decimal place.index ++ codes "]"))
 
 -- the name of a kind; no bytes where there is none
-abbrev pub kind_word : List KindName → Kind → List ℕ
-kind_word kinds kind = option_map_or (λ k. k.name) (slice_get kinds kind.0) []
+abbrev pub kind_token : List KindName → Kind → List ℕ
+kind_token kinds kind = option_map_or (λ k. k.name) (slice_get kinds kind.0) []
 
 -- the kinds that are in a set, of a list of kinds whose first is the kind `at`
 abbrev pub kinds_in : ℕ → ℕ → List KindName → List KindName
@@ -62,21 +62,21 @@ kinds_in set at (kind ∷ kinds) =
     if has_kind set (record { 0 = at }) then kind ∷ kinds_in set (at + 1) kinds else kinds_in set (at + 1) kinds
 
 -- the names of some kinds, joined by commas, or `none` where there are none
-abbrev pub names_word : List KindName → List ℕ
-names_word [] = codes "none"
-names_word (kind ∷ kinds) = join_by (λ k. k.name) (codes ",") (kind ∷ kinds)
+abbrev pub names_token : List KindName → List ℕ
+names_token [] = codes "none"
+names_token (kind ∷ kinds) = join_by (λ k. k.name) (codes ",") (kind ∷ kinds)
 
 -- a set of kinds, in the order of declaration
-abbrev pub kinds_word : List KindName → ℕ → List ℕ
-kinds_word kinds set = names_word (kinds_in set 0 kinds)
+abbrev pub kinds_token : List KindName → ℕ → List ℕ
+kinds_token kinds set = names_token (kinds_in set 0 kinds)
 
 -- ---- statements
 
 -- const E, iota E E, mix E
-abbrev pub pattern_words : Pattern → Statement
-pattern_words (Const word) = codes "const" ∷ decimal word ∷ []
-pattern_words (Iota first step) = codes "iota" ∷ decimal first ∷ decimal step ∷ []
-pattern_words (Mix seed) = codes "mix" ∷ decimal seed ∷ []
+abbrev pub pattern_tokens : Pattern → Statement
+pattern_tokens (Const word) = codes "const" ∷ decimal word ∷ []
+pattern_tokens (Iota first step) = codes "iota" ∷ decimal first ∷ decimal step ∷ []
+pattern_tokens (Mix seed) = codes "mix" ∷ decimal seed ∷ []
 
 -- kind NAME, kind NAME halt
 abbrev pub kind_statement : KindName → Statement
@@ -84,46 +84,46 @@ kind_statement kind = codes "kind" ∷ kind.name ∷ (if kind.halts then codes "
 
 -- region NAME E PATTERN
 abbrev pub region_statement : Region → Statement
-region_statement region = codes "region" ∷ region.name ∷ decimal region.length ∷ pattern_words region.pattern
+region_statement region = codes "region" ∷ region.name ∷ decimal region.length ∷ pattern_tokens region.pattern
 
 -- domain NAME retry E detects KINDS
 abbrev pub domain_statement : List KindName → Domain → Statement
 domain_statement kinds domain =
-    codes "domain" ∷ domain.name ∷ codes "retry" ∷ decimal domain.retry ∷ codes "detects" ∷ kinds_word kinds domain.detects ∷ []
+    codes "domain" ∷ domain.name ∷ codes "retry" ∷ decimal domain.retry ∷ codes "detects" ∷ kinds_token kinds domain.detects ∷ []
 
 -- copy, refer, regen PATTERN
-abbrev pub how_words : How → Statement
-how_words how.Copy = codes "copy" ∷ []
-how_words how.Refer = codes "refer" ∷ []
-how_words (how.Regen pattern) = codes "regen" ∷ pattern_words pattern
+abbrev pub how_tokens : How → Statement
+how_tokens how.Copy = codes "copy" ∷ []
+how_tokens how.Refer = codes "refer" ∷ []
+how_tokens (how.Regen pattern) = codes "regen" ∷ pattern_tokens pattern
 
 -- preserve RANGE HOW
 abbrev pub entry_statement : List Region → Entry → Statement
-entry_statement regions entry = codes "preserve" ∷ range_word regions entry.range ∷ how_words entry.how
+entry_statement regions entry = codes "preserve" ∷ range_token regions entry.range ∷ how_tokens entry.how
 
 -- an operation: its name, and its parts in order, the destination first
 abbrev pub op_statement : List Region → Op → Statement
-op_statement regions (Fill d k) = codes "fill" ∷ range_word regions d ∷ decimal k ∷ []
-op_statement regions (Copy d x) = codes "copy" ∷ range_word regions d ∷ range_word regions x ∷ []
-op_statement regions (Add d x z) = codes "add" ∷ range_word regions d ∷ range_word regions x ∷ range_word regions z ∷ []
-op_statement regions (Sub d x z) = codes "sub" ∷ range_word regions d ∷ range_word regions x ∷ range_word regions z ∷ []
-op_statement regions (Mul d x z) = codes "mul" ∷ range_word regions d ∷ range_word regions x ∷ range_word regions z ∷ []
-op_statement regions (Axpy d k x) = codes "axpy" ∷ range_word regions d ∷ decimal k ∷ range_word regions x ∷ []
-op_statement regions (Scan d x) = codes "scan" ∷ range_word regions d ∷ range_word regions x ∷ []
-op_statement regions (Sum d x) = codes "sum" ∷ range_word regions d ∷ range_word regions x ∷ []
-op_statement regions (Dot d x z) = codes "dot" ∷ range_word regions d ∷ range_word regions x ∷ range_word regions z ∷ []
-op_statement regions (Max d x) = codes "max" ∷ range_word regions d ∷ range_word regions x ∷ []
+op_statement regions (Fill d k) = codes "fill" ∷ range_token regions d ∷ decimal k ∷ []
+op_statement regions (Copy d x) = codes "copy" ∷ range_token regions d ∷ range_token regions x ∷ []
+op_statement regions (Add d x z) = codes "add" ∷ range_token regions d ∷ range_token regions x ∷ range_token regions z ∷ []
+op_statement regions (Sub d x z) = codes "sub" ∷ range_token regions d ∷ range_token regions x ∷ range_token regions z ∷ []
+op_statement regions (Mul d x z) = codes "mul" ∷ range_token regions d ∷ range_token regions x ∷ range_token regions z ∷ []
+op_statement regions (Axpy d k x) = codes "axpy" ∷ range_token regions d ∷ decimal k ∷ range_token regions x ∷ []
+op_statement regions (Scan d x) = codes "scan" ∷ range_token regions d ∷ range_token regions x ∷ []
+op_statement regions (Sum d x) = codes "sum" ∷ range_token regions d ∷ range_token regions x ∷ []
+op_statement regions (Dot d x z) = codes "dot" ∷ range_token regions d ∷ range_token regions x ∷ range_token regions z ∷ []
+op_statement regions (Max d x) = codes "max" ∷ range_token regions d ∷ range_token regions x ∷ []
 op_statement regions (Stencil d a b c x) =
-    codes "stencil" ∷ range_word regions d ∷ decimal a ∷ decimal b ∷ decimal c ∷ range_word regions x ∷ []
+    codes "stencil" ∷ range_token regions d ∷ decimal a ∷ decimal b ∷ decimal c ∷ range_token regions x ∷ []
 op_statement regions (Spmv d s c v x) =
-    codes "spmv" ∷ range_word regions d ∷ range_word regions s ∷ range_word regions c ∷ range_word regions v
-    ∷ range_word regions x ∷ []
+    codes "spmv" ∷ range_token regions d ∷ range_token regions s ∷ range_token regions c ∷ range_token regions v
+    ∷ range_token regions x ∷ []
 
 -- strike PATH E E KIND PLACE E
 abbrev pub strike_statement : List Region → List KindName → RawFault → Statement
 strike_statement regions kinds fault =
-    codes "strike" ∷ fault.path ∷ decimal fault.begin ∷ decimal fault.item ∷ kind_word kinds fault.kind
-    ∷ place_word regions fault.place ∷ decimal fault.mask ∷ []
+    codes "strike" ∷ fault.path ∷ decimal fault.begin ∷ decimal fault.item ∷ kind_token kinds fault.kind
+    ∷ place_token regions fault.place ∷ decimal fault.mask ∷ []
 
 abbrev pub end_statement : Statement
 end_statement = codes "end" ∷ []

@@ -1,7 +1,7 @@
--- The law of reading back: what a canonical text is read as.
+-- The law that canonical texts are read back: what each is read as.
 use Rattle.std.specs.Prelude.{◌≡◌, ℕ, List, Ok}
 use Rattle.cd_tree.specs.declared.document.Document.{Document}
-use Rattle.cd_parse.specs.Reading.{parse}
+use Rattle.cd_parse.specs.Parsing.{parse}
 use Rattle.cd_print.specs.Canonical.{canonical, lifted}
 
 -- the canonical text of a document that a text is read as is read as the document

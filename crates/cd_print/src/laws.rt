@@ -1,4 +1,4 @@
-//! The law of reading back, as the contract of a function that does nothing: to call it is to have the law.
+//! The law that canonical texts are read back, as the contract of a function that does nothing: to call it is to have the law.
 
 ghost use Rattle.cd_print.specs.Laws.{ReadsBack, LiftedReadsBack};
 

@@ -1,7 +1,7 @@
 ghost use Rattle.std.specs.Prelude.{◌≡◌, ◌++◌, [], ◌∷◌, OnOk, string_bytes, codes, decimal};
-ghost use Rattle.cd_print.specs.Canonical.{line, range_word, op_statement};
+ghost use Rattle.cd_print.specs.Canonical.{line, range_token, op_statement};
 
-use crate::words::range_text;
+use crate::tokens::range_text;
 use cd_base::Range;
 use cd_tree::{Op, Region};
 use std::alloc::{AllocError, Global};
@@ -38,7 +38,7 @@ fn add_fill(
     k: u64,
     text: &mut String,
 ) -> Result<(), AllocError>
-    ensures { OnOk result (string_bytes text.new ≡ string_bytes text.old ++ line (codes "fill" ∷ range_word regions.now d ∷ decimal k ∷ [])) }
+    ensures { OnOk result (string_bytes text.new ≡ string_bytes text.old ++ line (codes "fill" ∷ range_token regions.now d ∷ decimal k ∷ [])) }
 {
     let d = range_text(alloc, regions, d)?;
     text.push_str(&format!(in alloc; "fill {d} {k}\n")?)
@@ -53,7 +53,7 @@ fn add_two(
     x: Range,
     text: &mut String,
 ) -> Result<(), AllocError>
-    ensures { OnOk result (string_bytes text.new ≡ string_bytes text.old ++ line (name.now ∷ range_word regions.now d ∷ range_word regions.now x ∷ [])) }
+    ensures { OnOk result (string_bytes text.new ≡ string_bytes text.old ++ line (name.now ∷ range_token regions.now d ∷ range_token regions.now x ∷ [])) }
 {
     let d = range_text(alloc, regions, d)?;
     let x = range_text(alloc, regions, x)?;
@@ -70,7 +70,7 @@ fn add_three(
     z: Range,
     text: &mut String,
 ) -> Result<(), AllocError>
-    ensures { OnOk result (string_bytes text.new ≡ string_bytes text.old ++ line (name.now ∷ range_word regions.now d ∷ range_word regions.now x ∷ range_word regions.now z ∷ [])) }
+    ensures { OnOk result (string_bytes text.new ≡ string_bytes text.old ++ line (name.now ∷ range_token regions.now d ∷ range_token regions.now x ∷ range_token regions.now z ∷ [])) }
 {
     let d = range_text(alloc, regions, d)?;
     let x = range_text(alloc, regions, x)?;
@@ -86,7 +86,7 @@ fn add_axpy(
     x: Range,
     text: &mut String,
 ) -> Result<(), AllocError>
-    ensures { OnOk result (string_bytes text.new ≡ string_bytes text.old ++ line (codes "axpy" ∷ range_word regions.now d ∷ decimal k ∷ range_word regions.now x ∷ [])) }
+    ensures { OnOk result (string_bytes text.new ≡ string_bytes text.old ++ line (codes "axpy" ∷ range_token regions.now d ∷ decimal k ∷ range_token regions.now x ∷ [])) }
 {
     let d = range_text(alloc, regions, d)?;
     let x = range_text(alloc, regions, x)?;
@@ -103,7 +103,7 @@ fn add_stencil(
     x: Range,
     text: &mut String,
 ) -> Result<(), AllocError>
-    ensures { OnOk result (string_bytes text.new ≡ string_bytes text.old ++ line (codes "stencil" ∷ range_word regions.now d ∷ decimal a ∷ decimal b ∷ decimal c ∷ range_word regions.now x ∷ [])) }
+    ensures { OnOk result (string_bytes text.new ≡ string_bytes text.old ++ line (codes "stencil" ∷ range_token regions.now d ∷ decimal a ∷ decimal b ∷ decimal c ∷ range_token regions.now x ∷ [])) }
 {
     let d = range_text(alloc, regions, d)?;
     let x = range_text(alloc, regions, x)?;
@@ -120,7 +120,7 @@ fn add_spmv(
     x: Range,
     text: &mut String,
 ) -> Result<(), AllocError>
-    ensures { OnOk result (string_bytes text.new ≡ string_bytes text.old ++ line (codes "spmv" ∷ range_word regions.now d ∷ range_word regions.now s ∷ range_word regions.now c ∷ range_word regions.now v ∷ range_word regions.now x ∷ [])) }
+    ensures { OnOk result (string_bytes text.new ≡ string_bytes text.old ++ line (codes "spmv" ∷ range_token regions.now d ∷ range_token regions.now s ∷ range_token regions.now c ∷ range_token regions.now v ∷ range_token regions.now x ∷ [])) }
 {
     let d = range_text(alloc, regions, d)?;
     let s = range_text(alloc, regions, s)?;

@@ -1,7 +1,7 @@
 ghost use Rattle.std.specs.Prelude.{◌≡◌, ◌≤◌, ◌++◌, [], ◌∷◌, length, IfOk, OnOk, string_bytes, decimal};
-ghost use Rattle.cd_print.specs.Canonical.{line, kind_word, place_word, kind_statement, region_statement, domain_statement, entry_statement, strike_statement};
+ghost use Rattle.cd_print.specs.Canonical.{line, kind_token, place_token, kind_statement, region_statement, domain_statement, entry_statement, strike_statement};
 
-use crate::words::{add_kinds, how_end, kind_name, pattern_end, place_text, range_text};
+use crate::tokens::{add_kinds, how_end, kind_name, pattern_end, place_text, range_text};
 use cd_tree::{Domain, Entry, KindName, RawFault, Region};
 use std::alloc::{AllocError, Global};
 
@@ -82,7 +82,7 @@ fn damage_end(
     kinds: &[KindName],
     fault: &RawFault,
 ) -> Result<String, AllocError>
-    ensures { IfOk result (λ text. string_bytes text ≡ line (kind_word kinds.now fault.now.kind ∷ place_word regions.now fault.now.place ∷ decimal fault.now.mask ∷ [])) }
+    ensures { IfOk result (λ text. string_bytes text ≡ line (kind_token kinds.now fault.now.kind ∷ place_token regions.now fault.now.place ∷ decimal fault.now.mask ∷ [])) }
 {
     let kind = kind_name(kinds, fault.kind);
     let place = place_text(alloc, regions, fault.place)?;

@@ -2,6 +2,7 @@
 use Rattle.std.proofs.Common.{◌≡◌, ℕ, zero, suc, ◌+◌, ◌-◌, ◌<◌, ◌≤◌, ◌^◌, Bool, true, false, cond, List, [], ◌∷◌, Option, Some, length, drop, get_or, set, slice_get, slice_index, refl, sym, ap, ◌∙◌, subst, arith}
 use Rattle.std.proofs.lemmas.Bool.{eq-eqb}
 use Rattle.std.proofs.lemmas.List.{at_drop_more, drop_all}
+use Rattle.cd_base.proofs.ListLemmas.{drop-read}
 use Rattle.cd_tree.specs.KindSets.{no_kinds}
 use Rattle.cd_tree.specs.declared.domain.NodeId.{NodeId}
 use Rattle.cd_tree.specs.declared.domain.Domain.{Domain}
@@ -15,7 +16,7 @@ use Rattle.cd_reading.specs.Steps.{quiet}
 use Rattle.cd_reading.specs.Walk.{the_node, listed, AreCounts, item_counts}
 use Rattle.cd_reading.proofs.Quiet.{TriesLeft, tries_all}
 use Rattle.cd_reading.proofs.Rises.{Rises, rises_on, counted_rises, tries_rise, try_rises}
-use Rattle.cd_reading.proofs.Walking.{PointsLeft, MembersLeft, view_is, counts_same, counts_below, count_set, dropped}
+use Rattle.cd_reading.proofs.Walking.{PointsLeft, MembersLeft, view_is, counts_same, counts_below, count_set}
 
 -- ---- items
 
@@ -51,7 +52,7 @@ pub points_next : (w : Case) (find : NodeId → Option Node) (h : Try) (notes : 
     (whole : Told TryEnd) → i < length items → item ≡ get_or items i item → PointsLeft w find h i notes counts (drop i items) whole
     → PointsLeft w find h i notes counts (item ∷ drop (i + 1) items) whole
 points_next w find h notes counts items i item whole within is left =
-    subst (λ (xs : List Item). PointsLeft w find h i notes counts xs whole) (dropped items i item within is) left
+    subst (λ (xs : List Item). PointsLeft w find h i notes counts xs whole) (drop-read items i item within is) left
 
 pub points_none : (w : Case) (find : NodeId → Option Node) (h : Try) (notes : ℕ) (counts : Counts) (items : List Item) (i : ℕ)
     (whole : Told TryEnd) → length items ≤ i → i ≤ length items → PointsLeft w find h i notes counts (drop i items) whole

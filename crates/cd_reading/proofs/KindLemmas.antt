@@ -6,6 +6,7 @@ use Rattle.std.proofs.lemmas.List.{at_drop_more, drop_all}
 use Rattle.cd_tree.specs.declared.document.Fault.{Fault}
 use Rattle.cd_tree.specs.KindSets.{only_kind}
 use Rattle.cd_tree.specs.Scripts.{kinds_of}
+use Rattle.cd_tree.proofs.KindLemmas.{bit_or-assoc, bit_or-none}
 
 pub neq-eqb : (a b : ℕ) → (a ≡ b → ⊥) → (a == b) ≡ false
 neq-eqb a b other = elim (cases_Bool (a == b)) [ inl e ↦ absurd (other (eqb-true a b e)) | inr e ↦ e ]
@@ -13,14 +14,6 @@ neq-eqb a b other = elim (cases_Bool (a == b)) [ inl e ↦ absurd (other (eqb-tr
 -- a fault of zeros
 abbrev pub no_fault : Fault
 no_fault = record { node = record { 0 = 0 }; begin = 0; item = 0; kind = record { 0 = 0 }; place = record { region = 0; index = 0 }; mask = 0 }
-
-pub or_assoc : (a b c : ℕ) → bit_or (bit_or a b) c ≡ bit_or a (bit_or b c)
-or_assoc a b c =
-    same_from_bits (bit_or (bit_or a b) c) (bit_or a (bit_or b c))
-    (λ i. omega (arith, bit_at_or (bit_or a b) c i, bit_at_or a b i, bit_at_or a (bit_or b c) i, bit_at_or b c i))
-
-pub or_none : (a : ℕ) → bit_or a 0 ≡ a
-or_none a = same_from_bits (bit_or a 0) a (λ i. omega (arith, bit_at_or a 0 i, bit_at-zero i))
 
 pub none_or : (a : ℕ) → bit_or 0 a ≡ a
 none_or a = same_from_bits (bit_or 0 a) a (λ i. omega (arith, bit_at_or 0 a i, bit_at-zero i))
@@ -44,7 +37,7 @@ kinds_next so faults point i d b within is left =
   where
     by : (c : Bool) → bit_or (if c then bit_or so (only_kind (get_or faults i d).kind) else so) (kinds_of (filter (at_point point) (drop (i + 1) faults)))
         ≡ bit_or so (kinds_of (if c then get_or faults i d ∷ filter (at_point point) (drop (i + 1) faults) else filter (at_point point) (drop (i + 1) faults)))
-    by true = or_assoc so (only_kind (get_or faults i d).kind) (kinds_of (filter (at_point point) (drop (i + 1) faults)))
+    by true = bit_or-assoc so (only_kind (get_or faults i d).kind) (kinds_of (filter (at_point point) (drop (i + 1) faults)))
     by false = refl
 
 pub kinds_more : (so : ℕ) (faults : List Fault) (point i : ℕ) (d : Fault) → i < length faults → ((get_or faults i d).item == point) ≡ true
@@ -62,4 +55,4 @@ pub kinds_all : (so : ℕ) (faults : List Fault) (point i : ℕ) → length faul
     → bit_or so (kinds_of (filter (at_point point) (drop i faults))) ≡ kinds_of (filter (at_point point) faults)
     → so ≡ kinds_of (filter (at_point point) faults)
 kinds_all so faults point i past left =
-    sym (or_none so) ∙ sym (ap (λ (fs : List Fault). bit_or so (kinds_of (filter (at_point point) fs))) (drop_all i faults past)) ∙ left
+    sym (bit_or-none so) ∙ sym (ap (λ (fs : List Fault). bit_or so (kinds_of (filter (at_point point) fs))) (drop_all i faults past)) ∙ left

@@ -1,22 +1,23 @@
 -- The walk over a program's domains: items and members from the front of a list, and what is known of each domain.
-use Rattle.std.proofs.Common.{◌≡◌, ℕ, zero, suc, ◌+◌, ◌<◌, ◌≤◌, ◌^◌, ◌==◌, Bool, true, false, cond, bit_or, bit_and, List, [], ◌∷◌, Option, None, Some, IsSomeAnd, unwrap_or, length, drop, filter, get_or, set, slice_get, slice_index, refl, sym, ap, ◌∙◌, subst, zero-add, arith, add-one, inl, inr}
+use Rattle.std.proofs.Common.{◌≡◌, ℕ, suc, ◌+◌, ◌<◌, ◌≤◌, ◌^◌, ◌==◌, Bool, true, false, cond, bit_or, bit_and, List, [], ◌∷◌, Option, Some, unwrap_or, length, filter, set, slice_get, slice_index, refl, sym, ap, ◌∙◌, subst, arith, add-one, inl, inr}
 use Rattle.std.proofs.Math.Path.{fun_ext}
 use Rattle.std.proofs.lemmas.Bool.{cases_eq, eq-eqb}
 use Rattle.std.proofs.lemmas.Option.{slice_get_within}
-use Rattle.std.proofs.lemmas.List.{at_drop_more, get_or-set_same, get_or-set_other}
+use Rattle.std.proofs.lemmas.List.{get_or-set_same, get_or-set_other}
+use Rattle.cd_base.proofs.ListLemmas.{some_of}
 use Rattle.cd_tree.specs.KindSets.{no_kinds}
 use Rattle.cd_tree.specs.declared.domain.NodeId.{NodeId}
 use Rattle.cd_tree.specs.declared.domain.Domain.{Domain}
 use Rattle.cd_tree.specs.declared.domain.Item.{Item}
 use Rattle.cd_tree.specs.declared.domain.Item.TheVariants.{Run, Group}
 use Rattle.cd_tree.specs.declared.document.Fault.{Fault}
-use Rattle.cd_tree.specs.declared.kinds.KindName.{KindName}
 use Rattle.cd_tree.specs.Scripts.{struck, kinds_of}
-use Rattle.cd_tree.specs.TreeModel.{TreeModel, IsTree, FitsDomain, EachFits, NamesChildren}
+use Rattle.cd_tree.specs.TreeModel.{TreeModel, IsTree, NamesChildren}
 use Rattle.cd_tree.specs.Domains.{Node, Members, node, members_by, body_by, put_first, node_of, nodes_from, root_of, first_of_all}
 use Rattle.cd_tree.specs.Laws.{NestedViewFollows}
 use Rattle.cd_tree.specs.Reading.{Case, Counts, counted, Told, told, silence, TryEnd, NodeEnd, GroupEnd, ends_joined, Try, unless_halted, arrived, detected, with_member, read_node, read_points, read_members, read_try}
 use Rattle.cd_tree.specs.Reading as reading
+use Rattle.cd_tree.proofs.KindLemmas.{bit_or-assoc, bit_or-none}
 use Rattle.cd_reading.specs.declared.ends.Tried.{Tried}
 use Rattle.cd_reading.specs.declared.steps.Step.{Step}
 use Rattle.cd_reading.specs.declared.steps.Step.TheVariants.{On, Over}
@@ -24,32 +25,11 @@ use Rattle.cd_reading.specs.Ends.{try_end, groups_joined, alone}
 use Rattle.cd_reading.specs.Steps.{quiet, went}
 use Rattle.cd_reading.specs.Strikes.{strikes_in}
 use Rattle.cd_reading.specs.Walk.{the_node, listed, AreCounts, item_read, item_counts}
-use Rattle.cd_reading.proofs.KindLemmas.{or_assoc, or_none, none_or, neq-eqb}
+use Rattle.cd_reading.proofs.KindLemmas.{none_or, neq-eqb}
 use Rattle.cd_reading.proofs.StruckLemmas.{struck_twice}
 use Rattle.cd_reading.proofs.Rises.{Rises, points_rise, members_rise, item_rises}
 
 -- ---- each domain of a program
-
-pub some_of : {A : Type 0} (o : Option A) (P : A → Type 0) → IsSomeAnd o P → (x : A) × (o ≡ Some x) × P x
-some_of None P h = absurd h
-some_of (Some x) P h = (x, refl, h)
-
-fits_at : (kinds : List KindName) (all : List Domain) (at : ℕ) (domains : List Domain) (k : ℕ) (domain : Domain)
-    → EachFits kinds all at domains → slice_get domains k ≡ Some domain → FitsDomain kinds all (at + k) domain
-fits_at kinds all at [] k domain each there = absurd (cc)
-fits_at kinds all at (first ∷ rest) zero domain (here, each) there =
-    let same : first ≡ domain = cc in
-    let sum : at + 0 ≡ at = omega arith in
-    rw (sum, ← same) here
-fits_at kinds all at (first ∷ rest) (suc k) domain (here, each) there =
-    let sum : at + suc k ≡ suc at + k = omega arith in
-    rw sum (fits_at kinds all (suc at) rest k domain each there)
-
-pub tree_fits : (tree : TreeModel) → IsTree tree → (id : NodeId) (domain : Domain) → slice_get tree.domains id.0 ≡ Some domain
-    → FitsDomain tree.kinds tree.domains id.0 domain
-tree_fits tree is id domain there =
-    subst (λ n. FitsDomain tree.kinds tree.domains n domain) (zero-add id.0)
-    (fits_at tree.kinds tree.domains 0 tree.domains id.0 domain is.each there)
 
 -- the view of a domain, by its number
 pub view_is : (tree : TreeModel) → IsTree tree → NestedViewFollows → (id : NodeId) (domain : Domain) → slice_get tree.domains id.0 ≡ Some domain
@@ -100,11 +80,6 @@ counts_below a b rises few n =
     let most : b n < 2 ^ 64 = few n in
     let less : a n ≤ b n = rises.each n in
     omega arith
-
--- ---- lists from the front
-
-pub dropped : {A : Type 0} (xs : List A) (i : ℕ) (x : A) → i < length xs → x ≡ get_or xs i x → drop i xs ≡ x ∷ drop (i + 1) xs
-dropped xs i x within is = at_drop_more (λ ys. ys) xs i x within ∙ ap (λ y. y ∷ drop (i + 1) xs) (sym is)
 
 -- ---- points
 
@@ -225,7 +200,7 @@ end_on w find h point kinds halts notes seen end counts whole kinds_is halts_is 
 -- ---- members
 
 joined_assoc : (so : GroupEnd) (end : NodeEnd) (rest : GroupEnd) → groups_joined so (ends_joined end rest) ≡ groups_joined (groups_joined so (alone end)) rest
-joined_assoc (reading.AllDone a) (reading.Done b) (reading.AllDone c) = ap (λ (n : ℕ). reading.AllDone n) (sym (or_assoc a b c))
+joined_assoc (reading.AllDone a) (reading.Done b) (reading.AllDone c) = ap (λ (n : ℕ). reading.AllDone n) (sym (bit_or-assoc a b c))
 joined_assoc (reading.AllDone a) (reading.Done b) (reading.SomeEscalated cause over) = refl
 joined_assoc (reading.AllDone a) (reading.Escalated cause over) (reading.AllDone c) = refl
 joined_assoc (reading.AllDone a) (reading.Escalated cause over) (reading.SomeEscalated other more) = refl
@@ -233,14 +208,14 @@ joined_assoc (reading.SomeEscalated first a) (reading.Done b) (reading.AllDone c
 joined_assoc (reading.SomeEscalated first a) (reading.Done b) (reading.SomeEscalated cause over) = refl
 joined_assoc (reading.SomeEscalated first a) (reading.Escalated cause over) (reading.AllDone c) = refl
 joined_assoc (reading.SomeEscalated first a) (reading.Escalated cause over) (reading.SomeEscalated other more) =
-    ap (λ (n : ℕ). reading.SomeEscalated first n) (sym (or_assoc a over more))
+    ap (λ (n : ℕ). reading.SomeEscalated first n) (sym (bit_or-assoc a over more))
 
 joined_first : (end : GroupEnd) → groups_joined (reading.AllDone no_kinds) end ≡ end
 joined_first (reading.AllDone leaks) = ap (λ (n : ℕ). reading.AllDone n) (none_or leaks)
 joined_first (reading.SomeEscalated cause over) = refl
 
 joined_last : (end : GroupEnd) → groups_joined end (reading.AllDone no_kinds) ≡ end
-joined_last (reading.AllDone leaks) = ap (λ (n : ℕ). reading.AllDone n) (or_none leaks)
+joined_last (reading.AllDone leaks) = ap (λ (n : ℕ). reading.AllDone n) (bit_or-none leaks)
 joined_last (reading.SomeEscalated cause over) = refl
 
 -- the ends so far, with those of the members that are left

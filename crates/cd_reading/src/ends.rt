@@ -60,7 +60,7 @@ impl Tried {
 }
 
 impl Grouped {
-    // This end of some members, with the end of the next member behind.
+    // This end of some members, with the end of the next member after it.
     pub(crate) fn and(self, end: Ended) -> Grouped
         ensures end { group_end result ≡ groups_joined (group_end self) (alone (node_end end)) }
         ensures fits { (count : ℕ) → GroupFits count self → NodeFits count end → GroupFits count result }

@@ -1,4 +1,4 @@
-// The steps of a try: how it comes to a point, how it goes on behind a group, how it is judged at the end.
+// The steps of a try: how it comes to a point, how it goes on after a group, how it is judged at the end.
 ghost use Rattle.std.specs.Prelude.{◌≡◌, ◌==◌, ◌<◌, ℕ, bit_and, bit_or};
 ghost use Rattle.cd_tree.specs.KindSets.{no_kinds, kinds_without};
 ghost use Rattle.cd_tree.specs.Reading.{Counts, Told, TryEnd, halted, unless_halted, stopped, group_ended, detected};
@@ -48,7 +48,7 @@ impl Try {
         Tried::Broken(self.blame(halting), over)
     }
 
-    // The try goes on behind a group whose members all complete; else it is over.
+    // The try goes on after a group whose members all complete; else it is over.
     pub(crate) fn behind(&self, end: Grouped, notes: Kinds) -> Step
         ensures step { (counts : Counts) (next : ℕ → Counts → Told TryEnd) → quiet (group_ended (try_of self.now) notes counts (group_end end) next) ≡ quiet (went result counts (λ seen. next seen counts)) }
         ensures fits { (count : ℕ) → GroupFits count end → StepFits count result }
@@ -71,7 +71,7 @@ impl Try {
         Tried::Broken(cause, left)
     }
 
-    // The declared kinds among the notes are found behind the last point.
+    // The declared kinds among the notes are found after the last point.
     pub(crate) fn judge(&self, notes: Kinds) -> Tried
         ensures end { (counts : Counts) → quiet (detected (try_of self.now) notes counts) ≡ (counts, try_end result) }
         ensures fits { (count : ℕ) → self.now.node.0 < count → TryFits count result }

@@ -1,3 +1,4 @@
+// How often the one domain of a program is tried, for pairs of faults at its begins.
 use crate::read_through;
 use cd_base::{Items, Place, Text};
 use cd_tree::{Domain, Fault, Kind, KindName, Kinds, NodeId, Tree};

@@ -1,4 +1,5 @@
-ghost use Rattle.std.specs.Prelude.{◌≡◌, ◌+◌, ◌<◌, ◌≤◌, ℕ, List, All, length, IfOk};
+// The call that reads a program through: its begins, and the cause where the root escalates.
+ghost use Rattle.std.specs.Prelude.{◌≡◌, ◌+◌, ◌<◌, ◌≤◌, ◌++◌, ◌∷◌, [], ℕ, List, All, length, IfOk};
 ghost use Rattle.cd_tree.specs.TreeModel.{IsTree};
 ghost use Rattle.cd_tree.specs.Record.{cause_of};
 ghost use Rattle.cd_tree.specs.Scripts.{path_of};
@@ -67,17 +68,29 @@ fn cause_of(alloc: Global, tree: &Tree, end: Ended) -> Result<Option<Cause>, NoM
 }
 
 // The numbers of the domains from the root down to a domain.
+#[cycle(path)]
 fn path_of(alloc: Global, tree: &Tree, node: NodeId) -> Result<Items<NodeId>, NoMemory>
     requires tree { IsTree tree.now }
     requires node { node.0 < length tree.now.domains }
     ensures path { IfOk result (λ path. path ≡ path_of tree.now.domains node) }
     ensures few { IfOk result (λ path. length path ≤ node.0 + 1) }
 {
-    laws::paths_go_from_parent_to_child();
-    let mut path = match tree.node(node).parent {
-        None => Items::new(alloc),
-        Some(parent) => path_of(alloc, tree, parent)?,
-    };
+    let mut path = path_above(alloc, tree, node)?;
     path.push(node)?;
     Ok(path)
+}
+
+// The numbers of the domains above a domain, from the root down.
+#[cycle(path)]
+fn path_above(alloc: Global, tree: &Tree, node: NodeId) -> Result<Items<NodeId>, NoMemory>
+    requires tree { IsTree tree.now }
+    requires node { node.0 < length tree.now.domains }
+    ensures path { IfOk result (λ path. path ++ node ∷ [] ≡ path_of tree.now.domains node) }
+    ensures few { IfOk result (λ path. length path ≤ node.0) }
+{
+    laws::paths_go_from_parent_to_child();
+    match tree.node(node).parent {
+        None => Ok(Items::new(alloc)),
+        Some(parent) => path_of(alloc, tree, parent),
+    }
 }

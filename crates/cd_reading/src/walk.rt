@@ -89,7 +89,7 @@ fn read_all_points(case: &Case, hand: &Try, items: &[Item], counts: &mut [u64]) 
     }
 }
 
-// What follows a point: nothing behind an operation, the members behind a group.
+// What follows a point: nothing after an operation, the members after a group.
 #[cycle(reading)]
 fn pass_item(case: &Case, hand: &Try, item: &Item, notes: Kinds, counts: &mut [u64]) -> Step
     requires case { IsCase case.now }

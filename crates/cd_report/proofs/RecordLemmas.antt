@@ -1,5 +1,5 @@
 -- Lemmas on the lines of a record, and on a text that is written piece by piece.
-use Rattle.std.proofs.Common.{◌≡◌, ℕ, zero, suc, ◌+◌, ◌-◌, ◌<◌, ◌≤◌, true, false, inl, inr, List, [], ◌∷◌, ◌++◌, Option, None, Some, is_some, Ok, Err, length, take, drop, slice_get, codes, refl, sym, ap, ◌∙◌, subst, arith, append_assoc, length-append, length-take, length-drop}
+use Rattle.std.proofs.Common.{◌≡◌, ℕ, zero, suc, ◌+◌, ◌-◌, ◌<◌, ◌≤◌, Bool, true, false, inl, inr, List, [], ◌∷◌, ◌++◌, Option, None, Some, is_some, Ok, Err, length, take, drop, slice_get, if◌then◌else◌, codes, refl, sym, ap, ◌∙◌, subst, arith, append_assoc, length-append, length-drop}
 use Rattle.std.proofs.Math.Seq.{take-append-add}
 use Rattle.std.proofs.lemmas.List.{append-nil, drop_more, drop_all, drop-drop, take-append-drop, take-append-le}
 use Rattle.std.proofs.lemmas.Grind.{flat_map-append}
@@ -17,34 +17,13 @@ use Rattle.cd_base.proofs.EndLemmas.{Rose-before}
 use Rattle.cd_tree.specs.declared.domain.NodeId.{NodeId}
 use Rattle.cd_tree.specs.declared.document.Region.{Region}
 use Rattle.cd_tree.specs.declared.kinds.KindName.{KindName}
-use Rattle.cd_tree.specs.declared.event.Kept.{Kept}
 use Rattle.cd_tree.specs.declared.event.Event.{Event}
-use Rattle.cd_tree.specs.declared.event.Event.TheVariants.{Begin, Saved, Fell, Lapsed, Refilled, Reached, Halted, Found, Complete, Escalate}
-use Rattle.cd_report.specs.Texts.{line, place_text, kinds_text}
-use Rattle.cd_report.specs.Records.{kept_text, event_line, events_text}
-use Rattle.cd_report.proofs.TextLemmas.{next_piece, five_pieces, seven_pieces, nine_pieces, eleven_pieces}
+use Rattle.cd_tree.specs.declared.event.Event.TheVariants.{Fell, Lapsed}
+use Rattle.cd_report.specs.Texts.{line, place_text}
+use Rattle.cd_report.specs.Records.{event_text, event_line, events_text}
+use Rattle.cd_report.proofs.TextLemmas.{next_piece, nine_pieces, eleven_pieces}
 
 -- the lines of the events, made of their pieces
-pub two_parts : (kinds : List KindName) (regions : List Region) (event : Event) (word first second made : List ℕ)
-    → event_line kinds regions event ≡ line (word ++ first ++ codes " " ++ second)
-    → made ≡ word ++ (first ++ (codes " " ++ (second ++ codes "\n"))) → made ≡ event_line kinds regions event
-two_parts kinds regions event word first second made is e = e ∙ five_pieces word first (codes " ") second (codes "\n") ∙ sym is
-
-pub kinds_part : (kinds : List KindName) (regions : List Region) (event : Event) (word first second : List ℕ) (found : ℕ) (made : List ℕ)
-    → event_line kinds regions event ≡ line (word ++ first ++ codes " " ++ kinds_text kinds found) → second ≡ kinds_text kinds found
-    → made ≡ word ++ (first ++ (codes " " ++ (second ++ codes "\n"))) → made ≡ event_line kinds regions event
-kinds_part kinds regions event word first second found made is k e =
-    two_parts kinds regions event word first second made (is ∙ ap (λ (t : List ℕ). line (word ++ first ++ codes " " ++ t)) (sym k)) e
-
-pub saved_line : (kinds : List KindName) (regions : List Region) (event : Event) (node : NodeId) (entry : ℕ) (how : Kept) (word made : List ℕ)
-    → event ≡ Saved node entry how → word ≡ kept_text how
-    → made ≡ codes "saved " ++ (decimal node.0 ++ (codes " " ++ (decimal entry ++ (codes " " ++ (word ++ codes "\n")))))
-    → made ≡ event_line kinds regions event
-saved_line kinds regions event node entry how word made is w e =
-    e ∙ seven_pieces (codes "saved ") (decimal node.0) (codes " ") (decimal entry) (codes " ") word (codes "\n")
-    ∙ ap (λ (t : List ℕ). line (codes "saved " ++ decimal node.0 ++ codes " " ++ decimal entry ++ codes " " ++ t)) w
-    ∙ ap (event_line kinds regions) (sym is)
-
 pub fell_line : (kinds : List KindName) (regions : List Region) (event : Event) (node : NodeId) (entry : ℕ) (p : Place) (wanted found : ℕ) (place made : List ℕ)
     → event ≡ Fell node entry p wanted found → place ≡ place_text regions p
     → made ≡ codes "fell " ++ (decimal node.0 ++ (codes " " ++ (decimal entry ++ (codes " " ++ (place ++ (codes " wanted " ++ (decimal wanted ++ (codes " found " ++ (decimal found ++ codes "\n")))))))))
@@ -135,37 +114,15 @@ events_written kinds regions events k n text whole e i =
 line_some : (text : List ℕ) → 0 < length (line text)
 line_some text = omega (arith, length-append text (10 ∷ []))
 
-event_some : (kinds : List KindName) (regions : List Region) (event : Event) → 0 < length (event_line kinds regions event)
-event_some kinds regions (Begin node number) = line_some (codes "begin " ++ decimal node.0 ++ codes " " ++ decimal number)
-event_some kinds regions (Saved node entry how) =
-    line_some (codes "saved " ++ decimal node.0 ++ codes " " ++ decimal entry ++ codes " " ++ kept_text how)
-event_some kinds regions (Fell node entry place wanted found) =
-    line_some
-    (codes "fell " ++ decimal node.0 ++ codes " " ++ decimal entry ++ codes " " ++ place_text regions place ++ codes " wanted "
-    ++ decimal wanted ++ codes " found " ++ decimal found)
-event_some kinds regions (Lapsed node entry seen found) =
-    line_some (codes "lapsed " ++ decimal node.0 ++ codes " " ++ decimal entry ++ codes " seen " ++ decimal seen ++ codes " found " ++ decimal found)
-event_some kinds regions (Refilled node entry) = line_some (codes "refilled " ++ decimal node.0 ++ codes " " ++ decimal entry)
-event_some kinds regions (Reached node point) = line_some (codes "reached " ++ decimal node.0 ++ codes " " ++ decimal point)
-event_some kinds regions (Halted node found) = line_some (codes "halted " ++ decimal node.0 ++ codes " " ++ kinds_text kinds found)
-event_some kinds regions (Found node found) = line_some (codes "found " ++ decimal node.0 ++ codes " " ++ kinds_text kinds found)
-event_some kinds regions (Complete node) = line_some (codes "complete " ++ decimal node.0)
-event_some kinds regions (Escalate node) = line_some (codes "escalate " ++ decimal node.0)
-
 text_some : (kinds : List KindName) (regions : List Region) (events : List Event) → 0 < length events → 0 < length (events_text kinds regions events)
 text_some kinds regions [] h = absurd (omega (arith, h))
 text_some kinds regions (event ∷ events) h =
-    omega (arith, length-append (event_line kinds regions event) (events_text kinds regions events), event_some kinds regions event)
+    omega (arith, length-append (event_line kinds regions event) (events_text kinds regions events), line_some (event_text kinds regions event))
 
 -- where there are events from one on, they have a text
 pub rest_some : (kinds : List KindName) (regions : List Region) (events : List Event) (k : ℕ) → k < length events
     → 0 < length (events_text kinds regions (drop k events))
 rest_some kinds regions events k h = text_some kinds regions (drop k events) (omega (arith, length-drop k events, h))
-
-pub piece_some : (kinds : List KindName) (regions : List Region) (events : List Event) (k n : ℕ) → k < length events → 0 < n
-    → 0 < length (events_text kinds regions (take n (drop k events)))
-piece_some kinds regions events k n h p =
-    text_some kinds regions (take n (drop k events)) (omega (arith, length-take n (drop k events), length-drop k events, h, p))
 
 -- what was written of a whole text before now, and what is left of it
 pub record WroteSome (old now : SinkModel) (rest whole : List ℕ) : Type 0 where
@@ -219,7 +176,7 @@ as_piece : (old now : SinkModel) (rest whole : List ℕ) → WroteSome old now r
 as_piece old now rest whole w = subst (λ (t : List ℕ). WroteSome old now t whole) (sym (append-nil rest)) w
 
 -- a piece that cannot be made, of which nothing was written
-pub no_piece : (old : SinkModel) (piece : List ℕ) → 0 < length piece → GrewByFront old old piece
+no_piece : (old : SinkModel) (piece : List ℕ) → 0 < length piece → GrewByFront old old piece
 no_piece old piece h = (0, h, grew_none old)
 
 -- where the next piece cannot be made, a front of the whole was written
@@ -239,33 +196,33 @@ pub wrote_rest : (old now new : SinkModel) (rest whole : List ℕ) (result : Res
 wrote_rest old now new rest whole (Ok value) w a = subst (Grew old new) w.split (grew_more old now new w.done rest w.grew a)
 wrote_rest old now new rest whole (Err stop) w a = wrote_stop old now new rest [] whole stop (as_piece old now rest whole w) a
 
-split_wrote : (kinds : List KindName) (regions : List Region) (events : List Event) (from to n : ℕ) (old now : SinkModel) → to ≡ from + n
-    → WroteSome old now (events_text kinds regions (drop from events)) (events_text kinds regions events)
-    → WroteSome old now (events_text kinds regions (take (to - from) (drop from events)) ++ events_text kinds regions (drop to events)) (events_text kinds regions events)
-split_wrote kinds regions events from to n old now e w =
-    let size : from + (to - from) ≡ to = omega (arith, e) in
+split_wrote : (kinds : List KindName) (regions : List Region) (events : List Event) (from to : ℕ) (old now : SinkModel) (whole : List ℕ) → from ≤ to
+    → WroteSome old now (events_text kinds regions (drop from events)) whole
+    → WroteSome old now (events_text kinds regions (take (to - from) (drop from events)) ++ events_text kinds regions (drop to events)) whole
+split_wrote kinds regions events from to old now whole h w =
+    let size : from + (to - from) ≡ to = omega (arith, h) in
     let split : events_text kinds regions (drop from events) ≡ events_text kinds regions (take (to - from) (drop from events)) ++ events_text kinds regions (drop to events) =
     events_split kinds regions events from (to - from)
     ∙ ap (λ (k : ℕ). events_text kinds regions (take (to - from) (drop from events)) ++ events_text kinds regions (drop k events)) size in
-    subst (λ (t : List ℕ). WroteSome old now t (events_text kinds regions events)) split w
+    subst (λ (t : List ℕ). WroteSome old now t whole) split w
 
 -- the next piece of some events, of which those before `from` were written
-pub wrote_piece : (kinds : List KindName) (regions : List Region) (events : List Event) (from to n : ℕ) (old now new : SinkModel) → to ≡ from + n
-    → WroteSome old now (events_text kinds regions (drop from events)) (events_text kinds regions events)
+pub wrote_piece : (kinds : List KindName) (regions : List Region) (events : List Event) (from to : ℕ) (old now new : SinkModel) (whole : List ℕ) → from ≤ to
+    → WroteSome old now (events_text kinds regions (drop from events)) whole
     → Grew now new (events_text kinds regions (take (to - from) (drop from events)))
-    → WroteSome old new (events_text kinds regions (drop to events)) (events_text kinds regions events)
-wrote_piece kinds regions events from to n old now new e w a =
+    → WroteSome old new (events_text kinds regions (drop to events)) whole
+wrote_piece kinds regions events from to old now new whole h w a =
     wrote_next old now new (events_text kinds regions (take (to - from) (drop from events))) (events_text kinds regions (drop to events))
-    (events_text kinds regions events) (split_wrote kinds regions events from to n old now e w) a
+    whole (split_wrote kinds regions events from to old now whole h w) a
 
 -- a piece that stopped
-pub wrote_piece_stop : (kinds : List KindName) (regions : List Region) (events : List Event) (from to n : ℕ) (old now new : SinkModel) (stop : WriteStop)
-    → to ≡ from + n → WroteSome old now (events_text kinds regions (drop from events)) (events_text kinds regions events)
+pub wrote_piece_stop : (kinds : List KindName) (regions : List Region) (events : List Event) (from to : ℕ) (old now new : SinkModel) (whole : List ℕ)
+    (stop : WriteStop) → from ≤ to → WroteSome old now (events_text kinds regions (drop from events)) whole
     → WriteAll {T = Unit {0}} now new (events_text kinds regions (take (to - from) (drop from events))) (Err stop)
-    → WriteAll {T = Unit {0}} old new (events_text kinds regions events) (Err stop)
-wrote_piece_stop kinds regions events from to n old now new stop e w a =
+    → WriteAll {T = Unit {0}} old new whole (Err stop)
+wrote_piece_stop kinds regions events from to old now new whole stop h w a =
     wrote_stop old now new (events_text kinds regions (take (to - from) (drop from events))) (events_text kinds regions (drop to events))
-    (events_text kinds regions events) stop (split_wrote kinds regions events from to n old now e w) a
+    whole stop (split_wrote kinds regions events from to old now whole h w) a
 
 -- an error that is handed on
 pub err_is : (result : Result (Unit {0}) WriteStop) (stop : WriteStop) → IsErr result × IsErrAnd result (λ it. it ≡ stop) → result ≡ Err stop
@@ -282,3 +239,10 @@ pub first_stops : (old new : SinkModel) (first second : List ℕ) (stop : WriteS
 first_stops old new first second stop result e a =
     subst (WriteAll {T = Unit {0}} old new (first ++ second)) (sym e)
     (wrote_stop old old new first second (first ++ second) stop (wrote_none old (first ++ second)) a)
+
+-- a report that was written, and the events behind it that were asked for
+pub wrote_run : (with_record : Bool) (old now new : SinkModel) (report events : List ℕ) (result : Result (Unit {0}) WriteStop) → with_record ≡ true
+    → Grew old now report → WriteAll now new events result → WriteAll old new (report ++ (if with_record then events else [])) result
+wrote_run with_record old now new report events result asked first rest =
+    subst (λ (b : Bool). WriteAll old new (report ++ (if b then events else [])) result) (sym asked)
+    (wrote_rest old now new events (report ++ events) result (wrote_first old now report events first) rest)

@@ -127,16 +127,16 @@ path_missing domains id h =
     ap (λ (o : Option (List NodeId)). join_with_byte 47 (map (name_of domains) (unwrap_or o []))) none
 
 -- pieces joined from the right are the pieces joined from the left
-pub four_pieces : (a b c d : List ℕ) → a ++ (b ++ (c ++ d)) ≡ a ++ b ++ c ++ d
+four_pieces : (a b c d : List ℕ) → a ++ (b ++ (c ++ d)) ≡ a ++ b ++ c ++ d
 four_pieces a b c d = sym (append_assoc (a ++ b) c d ∙ append_assoc a b (c ++ d))
 
 six_pieces : (a b c d e f : List ℕ) → a ++ (b ++ (c ++ (d ++ (e ++ f)))) ≡ a ++ b ++ c ++ d ++ e ++ f
 six_pieces a b c d e f = four_pieces a b c (d ++ (e ++ f)) ∙ four_pieces (a ++ b ++ c) d e f
 
-pub five_pieces : (a b c d e : List ℕ) → a ++ (b ++ (c ++ (d ++ e))) ≡ a ++ b ++ c ++ d ++ e
+five_pieces : (a b c d e : List ℕ) → a ++ (b ++ (c ++ (d ++ e))) ≡ a ++ b ++ c ++ d ++ e
 five_pieces a b c d e = four_pieces a b c (d ++ e) ∙ sym (append_assoc (a ++ b ++ c) d e)
 
-pub seven_pieces : (a b c d e f g : List ℕ) → a ++ (b ++ (c ++ (d ++ (e ++ (f ++ g))))) ≡ a ++ b ++ c ++ d ++ e ++ f ++ g
+seven_pieces : (a b c d e f g : List ℕ) → a ++ (b ++ (c ++ (d ++ (e ++ (f ++ g))))) ≡ a ++ b ++ c ++ d ++ e ++ f ++ g
 seven_pieces a b c d e f g = four_pieces a b c (d ++ (e ++ (f ++ g))) ∙ four_pieces (a ++ b ++ c) d e (f ++ g) ∙ sym (append_assoc (a ++ b ++ c ++ d ++ e) f g)
 
 pub nine_pieces : (a b c d e f g h i : List ℕ)

@@ -1,2 +1,3 @@
+-- The texts that the program writes.
 pub mod Texts
 pub mod Records

@@ -18,23 +18,26 @@ kept_text Copy = codes "copy"
 kept_text Refer = codes "refer"
 kept_text Regen = codes "regen"
 
--- the line of an event; domains, entries and points count from 0
+-- what is said of an event; domains, entries and points count from 0
+abbrev pub event_text : List KindName → List Region → Event → List ℕ
+event_text kinds regions (Begin node number) = codes "begin " ++ decimal node.0 ++ codes " " ++ decimal number
+event_text kinds regions (Saved node entry how) =
+    codes "saved " ++ decimal node.0 ++ codes " " ++ decimal entry ++ codes " " ++ kept_text how
+event_text kinds regions (Fell node entry place wanted found) =
+    codes "fell " ++ decimal node.0 ++ codes " " ++ decimal entry ++ codes " " ++ place_text regions place ++ codes " wanted "
+    ++ decimal wanted ++ codes " found " ++ decimal found
+event_text kinds regions (Lapsed node entry seen found) =
+    codes "lapsed " ++ decimal node.0 ++ codes " " ++ decimal entry ++ codes " seen " ++ decimal seen ++ codes " found " ++ decimal found
+event_text kinds regions (Refilled node entry) = codes "refilled " ++ decimal node.0 ++ codes " " ++ decimal entry
+event_text kinds regions (Reached node point) = codes "reached " ++ decimal node.0 ++ codes " " ++ decimal point
+event_text kinds regions (Halted node found) = codes "halted " ++ decimal node.0 ++ codes " " ++ kinds_text kinds found
+event_text kinds regions (Found node found) = codes "found " ++ decimal node.0 ++ codes " " ++ kinds_text kinds found
+event_text kinds regions (Complete node) = codes "complete " ++ decimal node.0
+event_text kinds regions (Escalate node) = codes "escalate " ++ decimal node.0
+
+-- the line of an event
 abbrev pub event_line : List KindName → List Region → Event → List ℕ
-event_line kinds regions (Begin node number) = line (codes "begin " ++ decimal node.0 ++ codes " " ++ decimal number)
-event_line kinds regions (Saved node entry how) =
-    line (codes "saved " ++ decimal node.0 ++ codes " " ++ decimal entry ++ codes " " ++ kept_text how)
-event_line kinds regions (Fell node entry place wanted found) =
-    line
-    (codes "fell " ++ decimal node.0 ++ codes " " ++ decimal entry ++ codes " " ++ place_text regions place ++ codes " wanted "
-    ++ decimal wanted ++ codes " found " ++ decimal found)
-event_line kinds regions (Lapsed node entry seen found) =
-    line (codes "lapsed " ++ decimal node.0 ++ codes " " ++ decimal entry ++ codes " seen " ++ decimal seen ++ codes " found " ++ decimal found)
-event_line kinds regions (Refilled node entry) = line (codes "refilled " ++ decimal node.0 ++ codes " " ++ decimal entry)
-event_line kinds regions (Reached node point) = line (codes "reached " ++ decimal node.0 ++ codes " " ++ decimal point)
-event_line kinds regions (Halted node found) = line (codes "halted " ++ decimal node.0 ++ codes " " ++ kinds_text kinds found)
-event_line kinds regions (Found node found) = line (codes "found " ++ decimal node.0 ++ codes " " ++ kinds_text kinds found)
-event_line kinds regions (Complete node) = line (codes "complete " ++ decimal node.0)
-event_line kinds regions (Escalate node) = line (codes "escalate " ++ decimal node.0)
+event_line kinds regions event = line (event_text kinds regions event)
 
 -- the lines of some events
 abbrev pub events_text : List KindName → List Region → List Event → List ℕ

@@ -92,14 +92,18 @@ begins_lines domains at (count ∷ counts) = begins_line domains at count ++ beg
 abbrev pub total_line : List ℕ → List ℕ
 total_line begins = line (codes "total " ++ decimal (sum begins))
 
+-- what becomes of a run, then these lines of regions, and how often each domain begins
+abbrev pub report_with : List ℕ → TreeModel → List ℕ → Option Cause → List ℕ
+report_with regions tree begins cause =
+    outcome_line tree cause ++ regions ++ begins_lines tree.domains 0 begins ++ total_line begins
+
 -- the report of a run, without its record
 abbrev pub report_text : TreeModel → List Region → Words → List ℕ → Option Cause → List ℕ
-report_text tree regions words begins cause =
-    outcome_line tree cause ++ region_lines words 0 regions ++ begins_lines tree.domains 0 begins ++ total_line begins
+report_text tree regions words begins cause = report_with (region_lines words 0 regions) tree begins cause
 
--- what the reading gives: what becomes of the run, and how often each domain begins
+-- what the reading gives, which knows no words
 abbrev pub reading_text : TreeModel → List ℕ → Option Cause → List ℕ
-reading_text tree begins cause = outcome_line tree cause ++ begins_lines tree.domains 0 begins ++ total_line begins
+reading_text tree begins cause = report_with [] tree begins cause
 
 -- each place of each region is present in the machine
 abbrev pub AllPresent : FieldModel → List Region → Type 0

@@ -1,3 +1,4 @@
+// The line of an accepted document.
 ghost use Rattle.std.specs.Prelude.{◌≡◌, ◌<◌, ◌^◌, length, IfOk, string_bytes};
 ghost use Rattle.cd_base.specs.Ends.{WriteAll};
 ghost use Rattle.cd_tree.specs.TreeModel.{IsTree};
@@ -27,8 +28,7 @@ fn accepted_line(alloc: Global, document: &Document, need: u32) -> Result<String
     ensures { IfOk result (λ text. string_bytes text ≡ accepted_line document.now need) }
 {
     let domains = document.tree.count();
-    let items = item_count(&document.tree, domains);
-    let entries = entry_count(&document.tree, domains);
+    let (items, entries) = items_and_entries(&document.tree, domains);
     let words = word_count(document.regions.items());
     let faults = document.faults.items().len();
     format!(in alloc;
@@ -36,30 +36,21 @@ fn accepted_line(alloc: Global, document: &Document, need: u32) -> Result<String
     )
 }
 
-/// The number of items of a tree's domains. It takes no memory.
-fn item_count(tree: &Tree, domains: u32) -> u64
+/// How many items and how many entries a tree's domains have. It takes no memory.
+fn items_and_entries(tree: &Tree, domains: u32) -> (u64, u64)
     requires tree { IsTree tree.now }
     requires domains { length tree.now.domains ≡ domains }
-    ensures { result ≡ item_count tree.now.domains }
+    ensures items { result.0 ≡ item_count tree.now.domains }
+    ensures entries { result.1 ≡ entry_count tree.now.domains }
 {
-    let mut count = 0;
+    let mut items = 0;
+    let mut entries = 0;
     for k in 0..domains {
-        count += tree.node(NodeId(k)).items.items().len() as u64;
+        let domain = tree.node(NodeId(k));
+        items += domain.items.items().len() as u64;
+        entries += domain.entries.items().len() as u64;
     }
-    count
-}
-
-/// The number of entries of a tree's domains. It takes no memory.
-fn entry_count(tree: &Tree, domains: u32) -> u64
-    requires tree { IsTree tree.now }
-    requires domains { length tree.now.domains ≡ domains }
-    ensures { result ≡ entry_count tree.now.domains }
-{
-    let mut count = 0;
-    for k in 0..domains {
-        count += tree.node(NodeId(k)).entries.items().len() as u64;
-    }
-    count
+    (items, entries)
 }
 
 /// The number of words of regions. It takes no memory.

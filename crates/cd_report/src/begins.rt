@@ -1,3 +1,4 @@
+// How often domains began: a line for each, and their sum.
 ghost use Rattle.std.specs.Prelude.{◌≡◌, ◌<◌, ◌^◌, ◌++◌, length, sum, OnOk, string_bytes};
 ghost use Rattle.cd_report.specs.Texts.{begins_line, begins_lines};
 

@@ -8,6 +8,7 @@
 
 mod accepted;
 mod begins;
+mod events;
 mod lines;
 mod outcome;
 mod places;

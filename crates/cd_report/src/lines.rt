@@ -1,3 +1,4 @@
+// Lines of their own.
 ghost use Rattle.cd_base.specs.Ends.{WriteAll};
 ghost use Rattle.cd_report.specs.Texts.{usage_line, fault_line, not_built_line};
 

@@ -1,3 +1,4 @@
+// The first line of a report, and the texts that it shares with other lines: paths, and sets of kinds.
 ghost use Rattle.std.specs.Prelude.{◌≡◌, ◌≤◌, ◌++◌, ◌∷◌, length, None, Some, OnOk, IfOk, string_bytes, if◌then◌else◌};
 ghost use Rattle.std.specs.List.{last_or};
 ghost use Rattle.std.specs.Option.{option_copied};

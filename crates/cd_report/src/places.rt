@@ -1,3 +1,4 @@
+// Places as text.
 ghost use Rattle.std.specs.Prelude.{◌≡◌, [], IfOk, slice_get, string_bytes};
 ghost use Rattle.std.specs.Option.{option_map_or};
 ghost use Rattle.cd_report.specs.Texts.{place_text};
@@ -10,7 +11,8 @@ use std::alloc::{AllocError, Global};
 pub fn place_text(alloc: Global, regions: &[Region], place: Place) -> Result<String, AllocError>
     ensures { IfOk result (λ text. string_bytes text ≡ place_text regions.now place) }
 {
-    format!(in alloc; "{}[{}]", name_of(regions, place.region), place.index)
+    let text = format!(in alloc; "{}[{}]", name_of(regions, place.region), place.index)?;
+    Ok(text)
 }
 
 /// The name of a region, which is empty where there is no such region.

@@ -1,7 +1,8 @@
-ghost use Rattle.std.specs.Prelude.{◌≡◌, IfOk, string_bytes};
+// The lines of refusals.
+ghost use Rattle.std.specs.Prelude.{◌≡◌, ◌++◌, codes, IfOk, string_bytes};
 ghost use Rattle.std.specs.Option.{option_copied};
 ghost use Rattle.cd_base.specs.Ends.{WriteAll};
-ghost use Rattle.cd_report.specs.Texts.{refusal_text, refusal_line, path_in, place_in, which_text};
+ghost use Rattle.cd_report.specs.Texts.{line, refusal_text, refusal_line, path_in, place_in, which_text};
 
 use crate::outcome::add_path;
 use crate::places::place_text;
@@ -18,21 +19,20 @@ pub fn write_refusal<K: Sink>(
 ) -> Result<(), WriteStop>
     ensures { WriteAll (K.model sink.old) (K.model sink.new) (refusal_line (option_copied document.entry) refusal.now) result }
 {
-    match refusal_line(alloc, document, refusal) {
-        Ok(line) => write_all(sink, line.as_bytes()),
+    match refusal_text(alloc, document, refusal) {
+        Ok(text) => write_refused(alloc, text.as_str(), sink),
         Err(_) => Err(WriteStop::NoMemory),
     }
 }
 
-/// The line of a refusal.
-fn refusal_line(
-    alloc: Global,
-    document: Option<&Document>,
-    refusal: &Refusal,
-) -> Result<String, AllocError>
-    ensures { IfOk result (λ text. string_bytes text ≡ refusal_line (option_copied document.entry) refusal.now) }
+/// Writes the line of a refusal that says this.
+fn write_refused<K: Sink>(alloc: Global, text: &str, sink: &mut K) -> Result<(), WriteStop>
+    ensures { WriteAll (K.model sink.old) (K.model sink.new) (line (codes "refused " ++ text.now)) result }
 {
-    format!(in alloc; "refused {}\n", refusal_text(alloc, document, refusal)?)
+    match format!(in alloc; "refused {text}\n") {
+        Ok(line) => write_all(sink, line.as_bytes()),
+        Err(_) => Err(WriteStop::NoMemory),
+    }
 }
 
 /// What a refusal says.

@@ -1,7 +1,8 @@
-ghost use Rattle.std.specs.Prelude.{◌≡◌, ℕ, ◌<◌, ◌^◌, ◌++◌, length, sum, OnOk, string_bytes};
+// The regions' words in a report.
+ghost use Rattle.std.specs.Prelude.{◌≡◌, ℕ, ◌<◌, ◌^◌, ◌++◌, length, sum, OnOk, IfOk, string_bytes};
 ghost use Rattle.cd_base.specs.Words.{word_at, word_of};
 ghost use Rattle.cd_field.specs.FieldModel.{IsPresent};
-ghost use Rattle.cd_report.specs.Texts.{region_line, region_lines, words_text, words_from, listed, weighted, AllPresent};
+ghost use Rattle.cd_report.specs.Texts.{region_line, region_lines, words_from, listed, summed, weighted, AllPresent};
 
 use cd_base::Place;
 use cd_field::Field;
@@ -38,27 +39,28 @@ fn add_region<F: Field>(
 {
     text.push_str("region ")?;
     text.push_str(region.name.as_str())?;
-    add_words_or_sums(alloc, machine, number, region.length, text)?;
+    if region.length > 16 {
+        text.push_str(&sums_text(alloc, machine, number, region.length)?)?;
+        return text.push_str("\n");
+    }
+    add_words(alloc, machine, number, region.length, text)?;
     text.push_str("\n")
 }
 
-/// Puts the words of a region behind a text, or its length and sums where it has more than sixteen words.
-fn add_words_or_sums<F: Field>(
+/// The length of a region and the sums of its words.
+fn sums_text<F: Field>(
     alloc: Global,
     machine: &F,
     region: u32,
     length: u32,
-    text: &mut String,
-) -> Result<(), AllocError>
+) -> Result<String, AllocError>
     requires { (i : ℕ) → i < length → IsPresent (F.model machine.now) (record { region = region; index = i }) }
-    ensures { OnOk result (string_bytes text.new ≡ string_bytes text.old ++ words_text length (words_from (F.model machine.now).words region 0 length)) }
+    ensures { IfOk result (λ text. string_bytes text ≡ summed length (words_from (F.model machine.now).words region 0 length)) }
 {
-    if length <= 16 {
-        return add_words(alloc, machine, region, length, text);
-    }
     let sum = sum_of(machine, region, length);
     let weighted = weighted_sum_of(machine, region, length);
-    text.push_str(&format!(in alloc; " length {length} sum {sum} weighted {weighted}")?)
+    let text = format!(in alloc; " length {length} sum {sum} weighted {weighted}")?;
+    Ok(text)
 }
 
 /// Puts the words of a region behind a text, each after a space.

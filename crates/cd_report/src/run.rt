@@ -1,7 +1,8 @@
+// The reports of a run and of a reading.
 ghost use Rattle.std.specs.Prelude.{◌≡◌, ◌<◌, ◌^◌, length, sum, IfOk, string_bytes};
 ghost use Rattle.std.specs.Option.{option_copied};
 ghost use Rattle.cd_base.specs.Ends.{WriteAll};
-ghost use Rattle.cd_report.specs.Texts.{report_text, reading_text, AllPresent};
+ghost use Rattle.cd_report.specs.Texts.{report_with, region_lines, reading_text, AllPresent};
 ghost use Rattle.cd_report.specs.Records.{run_text};
 
 use crate::begins::{add_begins, total_of};
@@ -28,9 +29,13 @@ pub fn write_run<F: Field, K: Sink>(
     requires present { AllPresent (F.model machine.now) regions.now }
     requires counts { length begins.now ≡ length tree.now.domains }
     requires total { sum begins.now < 2 ^ 64 }
+    requires short { length (F.model machine.now).events < 2 ^ 64 }
     ensures { WriteAll (K.model sink.old) (K.model sink.new) (run_text with_record tree.now regions.now (F.model machine.now).words (F.model machine.now).events begins.now (option_copied cause.entry)) result }
 {
-    let Ok(text) = report(alloc, tree, regions, machine, begins, cause) else {
+    let Ok(words) = regions_text(alloc, regions, machine) else {
+        return Err(WriteStop::NoMemory);
+    };
+    let Ok(text) = report(alloc, tree, words.as_str(), begins, cause) else {
         return Err(WriteStop::NoMemory);
     };
     write_all(sink, text.as_bytes())?;
@@ -54,49 +59,42 @@ pub fn write_reading<K: Sink>(
     requires total { sum begins.now < 2 ^ 64 }
     ensures { WriteAll (K.model sink.old) (K.model sink.new) (reading_text tree.now begins.now (option_copied cause.entry)) result }
 {
-    match reading(alloc, tree, begins, cause) {
+    match report(alloc, tree, "", begins, cause) {
         Ok(text) => write_all(sink, text.as_bytes()),
         Err(_) => Err(WriteStop::NoMemory),
     }
 }
 
-/// The report of a run, without its record.
-fn report<F: Field>(
+/// The lines of the regions.
+fn regions_text<F: Field>(
     alloc: Global,
-    tree: &Tree,
     regions: &Regions,
     machine: &F,
-    begins: &Begins,
-    cause: Option<&Cause>,
 ) -> Result<String, AllocError>
-    requires present { AllPresent (F.model machine.now) regions.now }
-    requires counts { length begins.now ≡ length tree.now.domains }
-    requires total { sum begins.now < 2 ^ 64 }
-    ensures { IfOk result (λ text. string_bytes text ≡ report_text tree.now regions.now (F.model machine.now).words begins.now (option_copied cause.entry)) }
+    requires { AllPresent (F.model machine.now) regions.now }
+    ensures { IfOk result (λ text. string_bytes text ≡ region_lines (F.model machine.now).words 0 regions.now) }
 {
-    let count = tree.count();
     let mut text = String::new(alloc);
-    add_outcome(alloc, tree, cause, &mut text)?;
     add_regions(alloc, regions.items(), machine, &mut text)?;
-    add_begins(alloc, tree, begins, count, &mut text)?;
-    text.push_str(&format!(in alloc; "total {}\n", total_of(begins, count))?)?;
     Ok(text)
 }
 
-/// What the reading gives.
-fn reading(
+/// The report of a run, or of a reading, with these lines of regions.
+fn report(
     alloc: Global,
     tree: &Tree,
+    regions: &str,
     begins: &Begins,
     cause: Option<&Cause>,
 ) -> Result<String, AllocError>
     requires counts { length begins.now ≡ length tree.now.domains }
     requires total { sum begins.now < 2 ^ 64 }
-    ensures { IfOk result (λ text. string_bytes text ≡ reading_text tree.now begins.now (option_copied cause.entry)) }
+    ensures { IfOk result (λ text. string_bytes text ≡ report_with regions.now tree.now begins.now (option_copied cause.entry)) }
 {
     let count = tree.count();
     let mut text = String::new(alloc);
     add_outcome(alloc, tree, cause, &mut text)?;
+    text.push_str(regions)?;
     add_begins(alloc, tree, begins, count, &mut text)?;
     text.push_str(&format!(in alloc; "total {}\n", total_of(begins, count))?)?;
     Ok(text)

@@ -1,5 +1,5 @@
 -- A script has one first refusal: each fault has one answer, since one domain has its path.
-use Rattle.std.proofs.Common.{◌≡◌, ◌⊎◌, inl, inr, ℕ, zero, suc, ◌<◌, Bool, true, false, nat_lt, if◌then◌else◌, List, [], ◌∷◌, length, Option, None, Some, slice_get, refl, ap, sym, ◌∙◌, arith}
+use Rattle.std.proofs.Common.{◌≡◌, ◌⊎◌, inl, inr, ℕ, Bool, true, false, nat_lt, if◌then◌else◌, List, [], ◌∷◌, Option, None, Some, refl, ap, sym, ◌∙◌}
 use Rattle.std.proofs.lemmas.Bool.{lt-ltb, le-ltb}
 use Rattle.cd_tree.specs.declared.domain.NodeId.{NodeId}
 use Rattle.cd_tree.specs.declared.domain.Domain.{Domain}
@@ -11,8 +11,10 @@ use Rattle.cd_tree.specs.KindSets.{has_kind}
 use Rattle.cd_tree.specs.Laws.{PathsDiffer}
 use Rattle.cd_tree.specs.TreeModel.{TreeModel, IsTree}
 use Rattle.cd_tree.specs.Paths.{IsNoPath}
-use Rattle.cd_tree.specs.Refusals.{FirstOf, numbered}
+use Rattle.cd_tree.specs.Refusals.{numbered}
 use Rattle.cd_tree.specs.Scripts.{declared_for}
+use Rattle.cd_tree.proofs.RefusalLemmas.{HasOne, first_is_one}
+use Rattle.cd_tree.proofs.View.{domain_here}
 use Rattle.cd_script.specs.Acceptance.{HasPath, last_point, reaches, FaultOf, FirstFault, IsFoundAs, AreFoundAs}
 
 -- the answer for a fault whose domain is known, by three tests
@@ -75,11 +77,6 @@ comes domains at raw (Some (Undetected n)) (same, (id, path, place, unknown)) =
     )
 comes domains at raw (Some _) never = absurd never
 
-listed : (domains : List Domain) (k : ℕ) → k < length domains → (domain : Domain) × (slice_get domains k ≡ Some domain)
-listed [] k below = absurd (omega arith)
-listed (domain ∷ domains) zero below = (domain, refl)
-listed (domain ∷ domains) (suc k) below = listed domains k (omega arith)
-
 -- a fault as accepted in a domain
 abbrev found_in : RawFault → NodeId → Fault
 found_in raw id = record { node = id; begin = raw.begin; item = raw.item; kind = raw.kind; place = raw.place; mask = raw.mask }
@@ -87,8 +84,8 @@ found_in raw id = record { node = id; begin = raw.begin; item = raw.item; kind =
 same_domain : PathsDiffer → (tree : TreeModel) → IsTree tree → (path : List ℕ) (id other : NodeId)
     → HasPath tree.domains path id → HasPath tree.domains path other → id ≡ other
 same_domain differ tree is path id other p q =
-    let one = listed tree.domains id.0 p.0 in
-    let two = listed tree.domains other.0 q.0 in
+    let one = domain_here tree.domains id.0 p.0 in
+    let two = domain_here tree.domains other.0 q.0 in
     differ tree is id other one.0 two.0 one.1 two.1 (p.1 ∙ sym q.1)
 
 agree : PathsDiffer → (tree : TreeModel) → IsTree tree → (at : ℕ) (raw : RawFault) (one other : Option Refusal)
@@ -99,30 +96,13 @@ agree differ tree is at raw one other (inr p) (inl q) = absurd (q.0 p.0 p.1.0 p.
 agree differ tree is at raw one other (inr p) (inr q) =
     sym p.2 ∙ ap (answer_at tree.domains at raw) (same_domain differ tree is raw.path p.0 q.0 p.1 q.1) ∙ q.2
 
-one_answer : PathsDiffer → (tree : TreeModel) → IsTree tree → (fault : ℕ × RawFault) (one other : Option Refusal)
-    → FaultOf tree.domains fault one → FaultOf tree.domains fault other → one ≡ other
+one_answer : PathsDiffer → (tree : TreeModel) → IsTree tree → (fault : ℕ × RawFault) → HasOne (FaultOf tree.domains fault)
 one_answer differ tree is (at, raw) one other p q =
     agree differ tree is at raw one other (comes tree.domains at raw one p) (comes tree.domains at raw other q)
 
-first_is_one : {A : Type 0} (Says : A → Option Refusal → Type 0)
-    → ((x : A) (one other : Option Refusal) → Says x one → Says x other → one ≡ other)
-    → (xs : List A) (one other : Option Refusal) → FirstOf Says xs one → FirstOf Says xs other → one ≡ other
-first_is_one Says same [] one other p q = p ∙ sym q
-first_is_one Says same (x ∷ xs) None None p q = refl
-first_is_one Says same (x ∷ xs) None (Some r) p (inl q) = same x None (Some r) p.0 q
-first_is_one Says same (x ∷ xs) None (Some r) p (inr q) = first_is_one Says same xs None (Some r) p.1 q.1
-first_is_one Says same (x ∷ xs) (Some r) None (inl p) q = same x (Some r) None p q.0
-first_is_one Says same (x ∷ xs) (Some r) None (inr p) q = first_is_one Says same xs (Some r) None p.1 q.1
-first_is_one Says same (x ∷ xs) (Some r) (Some s) (inl p) (inl q) = same x (Some r) (Some s) p q
-first_is_one Says same (x ∷ xs) (Some r) (Some s) (inl p) (inr q) = absurd (let e : Some r ≡ None = same x (Some r) None p q.0 in cc)
-first_is_one Says same (x ∷ xs) (Some r) (Some s) (inr p) (inl q) = absurd (let e : None ≡ Some s = same x None (Some s) p.0 q in cc)
-first_is_one Says same (x ∷ xs) (Some r) (Some s) (inr p) (inr q) = first_is_one Says same xs (Some r) (Some s) p.1 q.1
-
 -- two first refusals of a script, or a refusal and none, are the same
-pub first_fault_is_one : PathsDiffer → (tree : TreeModel) → IsTree tree → (faults : List RawFault) (one other : Option Refusal)
-    → FirstFault tree.domains faults one → FirstFault tree.domains faults other → one ≡ other
-first_fault_is_one differ tree is faults one other p q =
-    first_is_one (FaultOf tree.domains) (one_answer differ tree is) (numbered 1 faults) one other p q
+pub first_fault_is_one : PathsDiffer → (tree : TreeModel) → IsTree tree → (faults : List RawFault) → HasOne (FirstFault tree.domains faults)
+first_fault_is_one differ tree is faults = first_is_one (FaultOf tree.domains) (one_answer differ tree is) (numbered 1 faults)
 
 same_fault : PathsDiffer → (tree : TreeModel) → IsTree tree → (raw : RawFault) (one other : Fault)
     → IsFoundAs tree.domains raw one → IsFoundAs tree.domains raw other → one ≡ other

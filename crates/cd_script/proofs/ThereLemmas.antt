@@ -1,5 +1,5 @@
 -- A script has an answer: a search for the path of each fault, and then three tests.
-use Rattle.std.proofs.Common.{◌≡◌, ◌⊎◌, ℕ, zero, suc, ◌^◌, ◌<◌, ◌≤◌, Bool, true, false, nat_le, List, [], ◌∷◌, length, Option, None, Some, All, refl, ap, inl, inr, arith, subst, sym, ◌∙◌}
+use Rattle.std.proofs.Common.{◌≡◌, ◌⊎◌, ℕ, zero, suc, ◌^◌, ◌<◌, ◌≤◌, Bool, true, false, nat_le, List, [], ◌∷◌, length, None, Some, All, refl, ap, inl, inr, arith, subst, sym, ◌∙◌}
 use Rattle.std.proofs.lemmas.Bool.{true≢false}
 use Rattle.std.proofs.lemmas.Bool.Decides.{nat_tests}
 use Rattle.std.proofs.lemmas.List.Elements.{All-nil, All-cons}
@@ -9,15 +9,15 @@ use Rattle.cd_tree.specs.declared.domain.NodeId.{NodeId}
 use Rattle.cd_tree.specs.declared.domain.Domain.{Domain}
 use Rattle.cd_tree.specs.declared.document.RawFault.{RawFault}
 use Rattle.cd_tree.specs.declared.document.Fault.{Fault}
-use Rattle.cd_tree.specs.declared.refusal.Refusal.{Refusal}
 use Rattle.cd_tree.specs.declared.refusal.Refusal.TheVariants.{UnknownPath, NoSuchItem, OutsideReach, Undetected}
 use Rattle.cd_tree.specs.KindSets.{has_kind}
 use Rattle.cd_tree.specs.Laws.{DetectableByPaths}
 use Rattle.cd_tree.specs.TreeModel.{TreeModel, IsTree}
-use Rattle.cd_tree.specs.Paths.{path_text_of, IsNoPath}
+use Rattle.cd_tree.specs.Paths.{path_text_of}
 use Rattle.cd_tree.specs.Refusals.{FirstOf, numbered}
 use Rattle.cd_tree.specs.Scripts.{CanStrike, IsAccepted, declared_for}
-use Rattle.cd_script.specs.Acceptance.{HasPath, HasPoint, HasKind, last_point, reaches, FaultOf, FirstFault, IsFoundAs, AreFoundAs}
+use Rattle.cd_tree.proofs.RefusalLemmas.{HasAnswer, first_there}
+use Rattle.cd_script.specs.Acceptance.{HasPath, last_point, reaches, FaultOf, FirstFault, IsFoundAs, AreFoundAs}
 use Rattle.cd_script.specs.There.{FirstFaultIsThere}
 use Rattle.cd_script.proofs.Striking.{IsDeclared, found_strikes, found_declared}
 
@@ -59,10 +59,6 @@ sought domains path (suc n) =
 
 -- ---- one fault
 
--- a question has an answer
-abbrev HasAnswer : (Option Refusal → Type 0) → Type 0
-HasAnswer Says = (answer : Option Refusal) × Says answer
-
 later : (a b : ℕ) → nat_le a b ≡ false → b < a
 later a b e = grind (e, arith, nat_tests)
 
@@ -91,15 +87,6 @@ fault_there domains (at, raw) = go (sought domains raw.path (length domains))
     go (inr none) = (Some (UnknownPath at), (refl, none))
 
 -- ---- all faults
-
-first_there : {A : Type 0} (Says : A → Option Refusal → Type 0) → ((x : A) → HasAnswer (Says x)) → (xs : List A) → HasAnswer (FirstOf Says xs)
-first_there Says each [] = (None, refl)
-first_there Says each (x ∷ xs) = go (each x) (first_there Says each xs)
-  where
-    go : HasAnswer (Says x) → HasAnswer (FirstOf Says xs) → HasAnswer (FirstOf Says (x ∷ xs))
-    go (None, here) (None, rest) = (None, (here, rest))
-    go (None, here) (Some r, rest) = (Some r, inr (here, rest))
-    go (Some r, here) rest = (Some r, inl here)
 
 -- each list of faults has a first refusal, or none
 pub first_fault_there : FirstFaultIsThere

@@ -1,8 +1,10 @@
+// One fault of a script: which domain its path names, and whether it can strike there and be found.
 ghost use Rattle.std.specs.Prelude.{◌≡◌, ◌<◌, length};
 ghost use Rattle.cd_tree.specs.Scripts.{declared_for};
 ghost use Rattle.cd_foot.specs.Feet.{AreFeet};
-ghost use Rattle.cd_script.specs.Acceptance.{FaultAnswers};
+ghost use Rattle.cd_script.specs.Acceptance.{FaultAnswers, reaches};
 
+use cd_base::Place;
 use cd_foot::Footprints;
 use cd_tree::{Fault, Kinds, NodeId, RawFault, Refusal, Tree, find, laws};
 
@@ -23,7 +25,7 @@ pub(crate) fn found(
     if fault.item > domain.items.items().len() as u64 {
         return Err(Refusal::NoSuchItem(number));
     }
-    if !feet.reach(node).has(fault.place) {
+    if !reaches(tree, feet, node, fault.place) {
         return Err(Refusal::OutsideReach(number));
     }
     if !declared(tree, node).has(fault.kind) {
@@ -37,6 +39,15 @@ pub(crate) fn found(
         place: fault.place,
         mask: fault.mask,
     })
+}
+
+// Whether a domain reaches a place.
+fn reaches(tree: &Tree, feet: &Footprints, node: NodeId, place: Place) -> bool
+    requires feet { AreFeet tree.now.domains feet.now }
+    requires node { node.0 < length tree.now.domains }
+    ensures { result ≡ reaches tree.now.domains node place }
+{
+    feet.reach(node).has(place)
 }
 
 // The kinds that a domain or one above it declares.

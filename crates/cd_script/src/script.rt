@@ -1,3 +1,4 @@
+// The call that accepts a script, or tells its first fault that cannot strike.
 ghost use Rattle.cd_foot.specs.Feet.{AreFeet};
 ghost use Rattle.cd_script.specs.Acceptance.{AcceptAnswers};
 

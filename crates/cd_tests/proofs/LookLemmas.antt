@@ -10,11 +10,11 @@ use Rattle.cd_parse.specs.Ranges.{region_in, range_in, place_in}
 use Rattle.cd_parse.specs.Operations.{fill_in, op_in}
 use Rattle.cd_parse.specs.Heads.{cd_in, with_region, region_statement, with_domain, domain_in, with_entry_of, how_in, preserve_in, end_in, faults_in, time_in, damage_in, strike_in}
 use Rattle.cd_parse.specs.Statements.{with_op, operation_in, statement, statement_in}
-use Rattle.cd_parse.specs.Reading.{taken, read, parse}
-use Rattle.cd_words.specs.Blocks.{marked_lines}
-use Rattle.cd_words.specs.Sums.{atom, times, term, plus, expression}
-use Rattle.cd_words.specs.Names.{name, path}
-use Rattle.cd_words.specs.Kinds.{kind, kind_set, pattern}
+use Rattle.cd_parse.specs.Parsing.{taken, read, parse}
+use Rattle.cd_tokens.specs.Blocks.{marked_lines}
+use Rattle.cd_tokens.specs.Sums.{atom, times, term, plus, expression}
+use Rattle.cd_tokens.specs.Names.{name, path}
+use Rattle.cd_tokens.specs.Kinds.{kind, kind_set, pattern}
 use Rattle.cd_field.specs.FieldModel.{FieldModel}
 use Rattle.cd_app.specs.declared.status.Status.{Status}
 use Rattle.cd_app.specs.declared.status.Status.TheVariants.{Done, Exhausted, Usage, Refused, ReadFault, WriteFault, NoMemory, NotBuilt}

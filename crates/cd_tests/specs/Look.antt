@@ -4,7 +4,7 @@ use Rattle.cd_base.specs.declared.pattern.Pattern.TheVariants.{Const}
 use Rattle.cd_tree.specs.declared.document.Region.{Region}
 use Rattle.cd_tree.specs.declared.document.Document.{Document}
 use Rattle.cd_tree.specs.declared.refusal.Refusal.{Refusal}
-use Rattle.cd_parse.specs.Reading.{parse}
+use Rattle.cd_parse.specs.Parsing.{parse}
 use Rattle.cd_field.specs.FieldModel.{FieldModel, IsPresent}
 use Rattle.cd_app.specs.Deeds.{one_document, runs, deed_in}
 use Rattle.cd_app.specs.declared.status.Status.{Status}

@@ -9,6 +9,8 @@ pub mod Numbers
 pub mod CountsParts
 pub mod CountsReading
 pub mod CountsSmall
+pub mod ShortParts
+pub mod ShortReading
 mod WorkedGroups
 mod WorkedHalts
 mod WorkedWords
@@ -71,3 +73,4 @@ pub mod Named
 pub mod LastChild
 pub mod Places
 mod WorkedSlices
+pub mod Weights

@@ -46,9 +46,12 @@ pub mod Absorbing
 pub mod CountLaws
 -- counts under accepted scripts are small
 pub mod AcceptedLaws
+-- a record has no more events than its program and its script allow
+pub mod RecordLengths
 -- when a domain begins again
 pub mod Begins
 -- fronts go on to each other, and each arrival is one
 pub mod FrontLaws
 -- legal records go together
 pub mod LegalLaws
+pub mod RecordLengths

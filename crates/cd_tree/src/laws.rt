@@ -9,6 +9,7 @@ ghost use Rattle.cd_tree.specs.Locality.{ColumnIsLocal, OperationsActLocally, Do
 ghost use Rattle.cd_tree.specs.FirstItems.{FirstThenRest, EnoughAreAll, OneItemMore, RunComesNext, GroupComesNext, OneItemLess, ItemsBehind, ItemsBefore, BehindIsRun, BehindIsGroup, BehindIsNothing, MembersAreNamed, LengthOfItems, LengthBehind, LengthOfFirst, FirstArePart, BehindArePart, FirstLeaveOthers, FirstKeepWords, FirstKeepAgreement, FirstAgreeInEntries, NextItemAgrees, MembersResume, MembersResumeIn, MembersTouchLess, MembersAreCovered, MembersShapesFit, MembersAreDisjoint};
 ghost use Rattle.cd_tree.specs.Absorbing.{AbsorbingIsMeaning, AbsorbingOne, MembersGiveTheirOwn, GroupLeavesOthers, GroupWritesByMembers, OrderDoesNotMatter, ApartIsUnseen};
 ghost use Rattle.cd_tree.specs.Laws.{RepeatsAreAtMostStrikes, StrikesAreAtMostEntries, RepeatsAreAtMostEntries, CountsAreAtMostOneMoreThanEntries, NestedViewFollows, NoLeakHalts, FoundAtRoots, FoundInPrograms, PathsDiffer, CoveredReach, ReachIsEntries, DisjointByDomains, CoveredByDomains, DetectableByPaths, NeedIsRoots, ParentsComeFirst, PathsGoDown, WordsStay};
+ghost use Rattle.cd_tree.specs.RecordLengths.{EventsGrowByRepeats, WeightsAreSmall, RecordsGrowByEntries, RecordsAreShort};
 ghost use Rattle.cd_tree.specs.SliceLaws.{SubtreesAreSlices, SlicesHaveTheirNumbers, MembersAreSlices, ChildrenFillSlices, SlicesEndWithin, ChildrenStand, ChildrenStandOnce, MembersAreChildren};
 
 /// No more tries are repeated than faults strike, and no more faults strike than the script has entries.
@@ -77,6 +78,15 @@ pub fn paths_go_from_parent_to_child()
 /// Under an accepted script no domain of a program begins more than 2^32 times.
 pub fn accepted_scripts_keep_counts_small()
     ensures { CountsAreSmall }
+{}
+
+/// A record has at most as many events as its program weighs, and as many again for each try that was repeated: so a `u64`
+/// counts the events of a program under an accepted script.
+pub fn records_are_short()
+    ensures reading { EventsGrowByRepeats }
+    ensures weight { WeightsAreSmall }
+    ensures program { RecordsGrowByEntries }
+    ensures accepted { RecordsAreShort }
 {}
 
 /// The numbers of a domain and of those below it are consecutive: a subtree is a slice of the list of domains.

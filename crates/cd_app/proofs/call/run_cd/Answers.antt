@@ -1,24 +1,22 @@
-use Rattle.std.proofs.Common.{refl}
-use Rattle.cd_command.specs.declared.command.Command.TheVariants.{Make}
-use Rattle.cd_make.specs.Making.{make_text}
-use Rattle.cd_app.specs.Calls.{call_of}
-use Rattle.cd_app.proofs.CallLemmas.{asks_for_it, asks_for_nothing}
-use Rattle.cd_app.proofs.ToldLemmas.{made_told, usage_told}
+use Rattle.std.proofs.Common.{◌≡◌, Some, ap, subst}
+use Rattle.std.specs.Prelude.{option_map}
+use Rattle.cd_base.specs.Ends.{SourceModel, SinkModel}
+use Rattle.cd_app.specs.Deeds.{deed_of, deed_in, one_document, runs}
+use Rattle.cd_app.specs.Calls.{Meets, call_of}
 use Rattle.cd_app.proofs.call.run_cd.Goals as goal
 
-pub returns-in-Ok-Some-Make : goal.returns-in-Ok-Some-Make
-returns-in-Ok-Some-Make g c =
-    let found = c.in-Ok-Some-Make in
-    made_told
-    (call_of c.args.words.now (g.S.Source.model c.args.source.now) (g.S.Source.model c.args.source.now) (g.F.Field.model c.args.machine.now) (g.F.Field.model c.args.machine.now))
-    (g.K.Sink.model c.args.sink.now) (g.K.Sink.model c.write_make.new.sink) (make_text found.size) c.settled.result c.write_make.result
-    (asks_for_it c.args.words.now found.field-0 found.field-0-0 (Make found.size) found.ensures.exact found.field-0-is found.field-0-0-is)
-    refl refl c.settled.ensures c.write_make.ensures
+pub returns-in-Ok : goal.returns-in-Ok
+returns-in-Ok g c = c.in-Ok.ensures.done (g.F.Field.model c.args.machine.now)
 
-pub returns-in-Ok-None : goal.returns-in-Ok-None
-returns-in-Ok-None g c =
-    let found = c.in-Ok-None in
-    usage_told
-    (call_of c.args.words.now (g.S.Source.model c.args.source.now) (g.S.Source.model c.args.source.now) (g.F.Field.model c.args.machine.now) (g.F.Field.model c.args.machine.now))
-    (g.K.Sink.model c.args.sink.now) (g.K.Sink.model c.write_usage.new.sink) c.settled-in-Ok-None.result c.write_usage.result
-    (asks_for_nothing c.args.words.now found.field-0 found.ensures.exact found.field-0-is) refl refl c.settled-in-Ok-None.ensures c.write_usage.ensures
+-- nothing was read or written before the run
+pub returns-in-Err : goal.returns-in-Err
+returns-in-Err g c =
+    let deed : deed_in c.args.words.now ≡ Some (runs one_document c.in-Err.asked.with_record) = ap (option_map deed_of) c.in-Err.ensures.run in
+    let was = g.F.Field.model c.args.machine.now in
+    let now = g.F.Field.model c.run_source.new.machine in
+    let left = g.S.Source.model c.run_source.new.source in
+    let holds = g.K.Sink.model c.run_source.new.sink in
+    subst (λ (source : SourceModel). Meets (call_of c.args.words.now source left was now) (g.K.Sink.model c.args.sink.now) holds c.run_source.result)
+    c.in-Err.ensures.source
+    (subst (λ (sink : SinkModel). Meets (call_of c.args.words.now (g.S.Source.model c.plain_cd.new.source) left was now) sink holds c.run_source.result)
+    c.in-Err.ensures.sink (c.run_source.ensures c.args.words.now deed))

@@ -1,4 +1,4 @@
-use Rattle.std.proofs.Common.{◌≡◌, true, false, refl, sym, subst, ◌∙◌}
+use Rattle.std.proofs.Common.{◌≡◌, true, false, sym, subst, ◌∙◌}
 use Rattle.cd_field.specs.FieldModel.{FieldModel}
 use Rattle.cd_app.specs.Running.{HoldsRun}
 use Rattle.cd_app.proofs.CallLemmas.{no_memory_in_run}

@@ -8,6 +8,6 @@ use Rattle.cd_cover.proofs.flaws.coverage_flaw.Goals as goal
 
 pub returns-in-Some : goal.returns-in-Some
 returns-in-Some c =
-    uncovered_at c.args.tree.now.domains c.args.node c.in-Some.place c.requires.node
-    (subst (λ (found : Option Place). IsSomeAnd (node_of c.args.tree.now.domains c.args.node) (λ d. IsLeast (uncovered d) found)) c.in-Some.is
+    uncovered_at c.args.program.now.tree.now.domains c.args.node c.in-Some.place c.requires.node
+    (subst (λ (found : Option Place). IsSomeAnd (node_of c.args.program.now.tree.now.domains c.args.node) (λ d. IsLeast (uncovered d) found)) c.in-Some.is
     c.in_ok-first_uncovered.ensures)

@@ -4,4 +4,4 @@ use Rattle.cd_cover.proofs.FirstLemmas.{EntriesLeft}
 use Rattle.cd_cover.proofs.flaws.entries_flaw.Given as goal
 
 abbrev pub invariant-loop-at : goal.invariant-loop-at
-invariant-loop-at l = EntriesLeft l.node (frames_of l.tree.domains l.node) l.at (drop l.at l.entries) l.entries
+invariant-loop-at l = EntriesLeft l.node (frames_of l.program.tree.now.domains l.node) l.at (drop l.at l.entries) l.entries

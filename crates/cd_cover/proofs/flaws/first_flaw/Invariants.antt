@@ -4,4 +4,4 @@ use Rattle.cd_cover.proofs.FirstLemmas.{DomainsLeft}
 use Rattle.cd_cover.proofs.flaws.first_flaw.Given as goal
 
 abbrev pub invariant-loop-k : goal.invariant-loop-k
-invariant-loop-k l = DomainsLeft l.tree.domains (drop l.k (nodes_from 0 l.tree.domains)) (nodes_from 0 l.tree.domains)
+invariant-loop-k l = DomainsLeft l.program.tree.now.domains (drop l.k (nodes_from 0 l.program.tree.now.domains)) (nodes_from 0 l.program.tree.now.domains)

@@ -2,4 +2,4 @@ use Rattle.cd_cover.proofs.LinkLemmas.{links_lead}
 use Rattle.cd_cover.proofs.laws.links_lead_to_what_is_kept.Goals as goal
 
 pub returns : goal.returns
-returns c = links_lead c.frames_go_up.ensures.up c.frames_go_up.ensures.end c.paths_go_from_parent_to_child.ensures.parents c.paths_go_from_parent_to_child.ensures.paths
+returns c = links_lead

@@ -1,9 +1,11 @@
 use Rattle.std.proofs.Common.{◌≡◌, ◌≤◌, ◌∙◌, length, map, ap, arith}
 use Rattle.std.proofs.lemmas.List.{take_all}
+use Rattle.cd_base.proofs.ListLemmas.{some_of}
 use Rattle.cd_tree.specs.declared.domain.NodeId.{NodeId}
 use Rattle.cd_tree.specs.Domains.{nodes_from, node_of}
+use Rattle.cd_tree.proofs.View.{length-nodes_from}
 use Rattle.cd_cover.specs.Plans.{links_of}
-use Rattle.cd_cover.proofs.Views.{some_of, map_more, length-nodes_from}
+use Rattle.cd_cover.proofs.Views.{map_more}
 use Rattle.cd_cover.proofs.links.all_links.Goals as goal
 
 pub loop-k-preserved : goal.loop-k-preserved

@@ -1,7 +1,8 @@
 use Rattle.std.proofs.Common.{◌≡◌, ◌<◌, ◌+◌, ◌*◌, ◌-◌, ◌∙◌, ℕ, List, length, subst, sym, ap, arith}
 use Rattle.cd_tree.specs.declared.domain.NodeId.{NodeId}
-use Rattle.cd_cover.specs.Needs.{HoldsFrom}
-use Rattle.cd_cover.proofs.Views.{domain_here}
+use Rattle.cd_tree.specs.Limits.{domains_limit}
+use Rattle.cd_tree.proofs.View.{domain_here}
+use Rattle.cd_cover.specs.Needs.{most_own, HoldsFrom}
 use Rattle.cd_cover.proofs.NeedLemmas.{NeedsDown, down_all, down_one, down_end, need_small, in_view, added_small}
 use Rattle.cd_cover.proofs.needs.needs_of.Goals as goal
 
@@ -39,7 +40,7 @@ overflow_add-index_mut c =
     let within : c.loop-k.k - 1 < length c.args.tree.now.domains = omega arith in
     let id : NodeId = record { 0 = c.loop-k.k - 1 } in
     let here = domain_here c.args.tree.now.domains (c.loop-k.k - 1) within in
-    let all : c.index_mut.result.now + c.groups_blocks-more.result < 2048 * 4294967361 =
+    let all : c.index_mut.result.now + c.groups_blocks-more.result < domains_limit * (most_own + 1) =
     added_small c.args.tree.now c.requires c.the_nested_view_follows_the_list.ensures c.the_root_needs_the_most.ensures
     c.in_ok-needs.ensures.small id here.0 here.1 c.loop-k.needs.items c.index_mut.result.now c.groups_blocks-more.result
     c.index_mut.ensures.value c.groups_blocks-more.ensures c.loop-k.k (omega arith) c.loop-k.invariant in

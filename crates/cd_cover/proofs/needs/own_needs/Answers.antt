@@ -1,16 +1,17 @@
 use Rattle.std.proofs.Common.{◌≡◌, ◌≤◌, ◌<◌, ◌∙◌, List, length, ap, sym, subst, sum_by, arith}
 use Rattle.std.proofs.lemmas.Option.{slice_get_within}
 use Rattle.cd_tree.specs.declared.domain.Entry.{Entry}
+use Rattle.cd_tree.specs.Limits.{entries_limit}
 use Rattle.cd_tree.specs.Meaning.{entry_need}
 use Rattle.cd_cover.specs.Needs.{most_own}
-use Rattle.cd_cover.proofs.Views.{tree_fits}
+use Rattle.cd_tree.proofs.View.{domain_fits}
 use Rattle.cd_cover.proofs.NeedLemmas.{own_more, small_more}
 use Rattle.cd_cover.proofs.needs.own_needs.Goals as goal
 
 pub own_blocks-requires : goal.own_blocks-requires
 own_blocks-requires c =
-    subst (λ (es : List Entry). length es ≤ 64) (sym c.items.ensures.value)
-    (tree_fits c.args.tree.now c.requires (record { 0 = c.loop-k.k }) c.node.result.now c.node.ensures).entries
+    subst (λ (es : List Entry). length es ≤ entries_limit) (sym c.items.ensures.value)
+    (domain_fits c.args.tree.now c.requires (record { 0 = c.loop-k.k }) c.node.result.now c.node.ensures).entries
 
 pub loop-k-preserved : goal.loop-k-preserved
 loop-k-preserved c =

@@ -5,8 +5,8 @@ use Rattle.cd_tree.specs.declared.refusal.Refusal.{Refusal}
 use Rattle.cd_tree.specs.Domains.{nodes_from, root_of}
 use Rattle.cd_tree.specs.Meaning.{node_need}
 use Rattle.cd_tree.specs.Refusals.{FirstOf}
+use Rattle.cd_tree.proofs.View.{length-nodes_from}
 use Rattle.cd_cover.specs.Checks.{DomainOf}
-use Rattle.cd_cover.proofs.Views.{length-nodes_from}
 use Rattle.cd_cover.proofs.PlanLemmas.{covered, fresh_links, root_read}
 use Rattle.cd_cover.proofs.planning.planned.Goals as goal
 
@@ -45,7 +45,7 @@ of-requires c =
       footprints = c.requires.feet;
       disjoint = c.requires.disjoint;
       covered = covered c.args.tree.now c.count.ensures.sound c.each_domain_answers_for_itself.ensures.covered clear;
-      linked = fresh_links c.args.tree.now c.count.ensures.sound c.the_nested_view_follows_the_list.ensures clear;
+      linked = fresh_links c.args.tree.now c.count.ensures.sound clear;
       link = c.in_ok-links.ensures;
       need = c.in_ok-needs.ensures;
       within = subst (λ n. n ≤ need_limit) need c.if-need-gt-MOST_NEED.false;

@@ -5,22 +5,22 @@ use Rattle.cd_base.specs.Places.{IsLeast}
 use Rattle.cd_tree.specs.declared.domain.NodeId.{NodeId}
 use Rattle.cd_tree.specs.TreeModel.{FitsItems, NamesChildren}
 use Rattle.cd_tree.specs.Domains.{node_of}
-use Rattle.cd_cover.proofs.Views.{tree_fits, members_here}
+use Rattle.cd_tree.proofs.View.{domain_fits, members_here}
 use Rattle.cd_cover.proofs.Steps.{by_members, ItemsLeft, items_all, run_at, group_at, group_with_child, items_end, named_at, at_view}
 use Rattle.cd_cover.proofs.written.first_before.Goals as goal
 use Rattle.cd_cover.proofs.written.first_before.Goals.{in-Run, in-Group+else-is_among}
 
 pub loop-item-init : goal.loop-item-init
 loop-item-init c =
-    let domains = c.args.tree.now.domains in
+    let domains = c.args.program.now.tree.now.domains in
     items_all domains c.args.parent.0 c.args.range c.args.child.0 c.items-item-items.result.now
     (subst (FitsItems domains c.args.parent.0) (sym c.items-item-items.ensures.value)
-    (tree_fits c.args.tree.now c.requires.tree c.args.parent c.node.result.now c.node.ensures).items)
+    (domain_fits c.args.program.now.tree.now c.requires.program.sound c.args.parent c.node.result.now c.node.ensures).items)
 
 pub returns-then-is_among : goal.returns-then-is_among
 returns-then-is_among c =
-    let domains = c.args.tree.now.domains in
-    at_view c.args.tree.now c.requires.tree c.the_nested_view_follows_the_list.ensures c.args.parent c.node.result.now c.node.ensures
+    let domains = c.args.program.now.tree.now.domains in
+    at_view c.args.program.now.tree.now c.requires.program.sound c.the_nested_view_follows_the_list.ensures c.args.parent c.node.result.now c.node.ensures
     c.args.range c.args.child.0 c.items-item-items.result.now c.items-item-items.ensures.value c.loop-item.found
     (group_with_child domains c.args.parent.0 c.args.range c.args.child.0 c.loop-item.found c.items-item-items.result.now
     c.loop-item.item-index c.item-item.result c.in-Group.members c.loop-item-test.true c.item-item.is c.in-Group.is
@@ -29,7 +29,7 @@ returns-then-is_among c =
 
 pub first_of_members-requires-clause-members : goal.first_of_members-requires-clause-members
 first_of_members-requires-clause-members c =
-    let domains = c.args.tree.now.domains in
+    let domains = c.args.program.now.tree.now.domains in
     members_here domains c.args.parent.0 c.items-in-Group.result.now
     (subst (NamesChildren domains c.args.parent.0) (sym c.items-in-Group.ensures.value)
     (named_at domains c.args.parent.0 c.args.range c.args.child.0 c.loop-item.found c.items-item-items.result.now
@@ -37,7 +37,7 @@ first_of_members-requires-clause-members c =
 
 pub loop-item-preserved : goal.loop-item-preserved
 loop-item-preserved c =
-    let domains = c.args.tree.now.domains in
+    let domains = c.args.program.now.tree.now.domains in
     let items = c.items-item-items.result.now in
     let i = c.loop-item.item-index in
     elim c.match-item.branch [
@@ -61,7 +61,7 @@ loop-item-preserved c =
 
 pub returns : goal.returns
 returns c =
-    at_view c.args.tree.now c.requires.tree c.the_nested_view_follows_the_list.ensures c.args.parent c.node.result.now c.node.ensures
+    at_view c.args.program.now.tree.now c.requires.program.sound c.the_nested_view_follows_the_list.ensures c.args.parent c.node.result.now c.node.ensures
     c.args.range c.args.child.0 c.items-item-items.result.now c.items-item-items.ensures.value c.loop-item.found
-    (items_end c.args.tree.now.domains c.args.parent.0 c.args.range c.args.child.0 c.loop-item.found c.items-item-items.result.now
+    (items_end c.args.program.now.tree.now.domains c.args.parent.0 c.args.range c.args.child.0 c.loop-item.found c.items-item-items.result.now
     c.loop-item.item-index c.loop-item-test.false c.loop-item.invariant)

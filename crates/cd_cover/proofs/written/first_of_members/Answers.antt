@@ -8,16 +8,16 @@ use Rattle.cd_cover.proofs.written.first_of_members.Goals as goal
 abbrev no_member : NodeId
 no_member = record { 0 = 0 }
 
-pub first_of_domain-requires : goal.first_of_domain-requires
-first_of_domain-requires c =
-    record { tree = c.requires.tree; feet = c.requires.feet; node = c.requires.members c.loop-member.member-index no_member c.loop-member-test.true }
+pub first_of_domain-requires-clause-node : goal.first_of_domain-requires-clause-node
+first_of_domain-requires-clause-node c =
+    c.requires.members c.loop-member.member-index no_member c.loop-member-test.true
 
 pub loop-member-init : goal.loop-member-init
-loop-member-init c = leaves_all (by_members c.args.range (node_of c.args.tree.now.domains) c.args.members.now)
+loop-member-init c = leaves_all (by_members c.args.range (node_of c.args.program.now.tree.now.domains) c.args.members.now)
 
 pub loop-member-preserved : goal.loop-member-preserved
 loop-member-preserved c =
-    let find = node_of c.args.tree.now.domains in
+    let find = node_of c.args.program.now.tree.now.domains in
     let i = c.loop-member.member-index in
     subst
     (λ found. Leaves found (by_members c.args.range find (drop (i + 1) c.args.members.now)) (by_members c.args.range find c.args.members.now))
@@ -27,5 +27,5 @@ loop-member-preserved c =
 
 pub returns : goal.returns
 returns c =
-    members_end c.args.range (node_of c.args.tree.now.domains) c.args.members.now c.loop-member.member-index c.loop-member.found
+    members_end c.args.range (node_of c.args.program.now.tree.now.domains) c.args.members.now c.loop-member.member-index c.loop-member.found
     c.loop-member-test.false c.loop-member.invariant

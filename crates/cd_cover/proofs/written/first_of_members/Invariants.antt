@@ -6,5 +6,5 @@ use Rattle.cd_cover.proofs.written.first_of_members.Given as goal
 
 abbrev pub invariant-loop-member : goal.invariant-loop-member
 invariant-loop-member l =
-    Leaves l.found (by_members l.range (node_of l.tree.domains) (drop l.member-index l.members))
-    (by_members l.range (node_of l.tree.domains) l.members)
+    Leaves l.found (by_members l.range (node_of l.program.tree.now.domains) (drop l.member-index l.members))
+    (by_members l.range (node_of l.program.tree.now.domains) l.members)

@@ -3,6 +3,3 @@ use Rattle.cd_field.proofs.trials.run_both.Given as goal
 
 abbrev pub invariant-loop-turn : goal.invariant-loop-turn
 invariant-loop-turn g l = IsReady (g.F.Field.model l.field) × IsReady (g.G.Field.model l.other)
-
-abbrev pub invariant-loop-k : goal.invariant-loop-k
-invariant-loop-k g l = IsReady (g.F.Field.model l.field) × IsReady (g.G.Field.model l.other)

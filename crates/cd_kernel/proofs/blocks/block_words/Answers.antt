@@ -12,5 +12,5 @@ row_products-requires-clause-here g c κs within =
 pub returns-in-Dot : goal.returns-in-Dot
 returns-in-Dot g c j short =
     c.fill_with-in-Dot.ensures j short
-    ∙ c.sum_of_products.ensures
+    ∙ c.gather-in-Dot.ensures
     ∙ sym (ap (λ (op : Op). column op (g.F.Field.model c.args.field.now).words (c.args.at + j)) c.in-Dot.is)

@@ -1,5 +1,5 @@
 use Rattle.cd_parse.proofs.ParseLemmas.{parse_made, parse_refused}
-use Rattle.cd_parse.proofs.SoundReading.{drawn_is_tree}
+use Rattle.cd_parse.proofs.SoundParsing.{drawn_is_tree}
 use Rattle.cd_parse.proofs.document.read_document.Goals as goal
 
 pub document-requires : goal.document-requires

@@ -1,6 +1,6 @@
 use Rattle.std.proofs.Common.{List, [], ◌∷◌, Result, length, refl, sym, ap, ◌∙◌, arith}
 use Rattle.cd_tree.specs.declared.refusal.Which.TheVariants as which
-use Rattle.cd_words.specs.declared.wrong.Wrong.{Wrong}
+use Rattle.cd_tokens.specs.declared.wrong.Wrong.{Wrong}
 use Rattle.cd_parse.specs.Draft.{DraftModel}
 use Rattle.cd_parse.proofs.RoomLemmas.{holds_at, room_held}
 use Rattle.cd_parse.proofs.heads.add_domain.Goals as goal

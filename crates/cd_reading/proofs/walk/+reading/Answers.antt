@@ -1,17 +1,19 @@
-use Rattle.std.proofs.Common.{rules, ◌≡◌, ◌<◌, ◌^◌, ◌+◌, ◌-◌, ◌∙◌, [], ◌∷◌, length, drop, get_or, set, slice_index, true, refl, sym, subst, length-set, arith}
+use Rattle.std.proofs.Common.{rules, ℕ, ◌≡◌, ◌<◌, ◌^◌, ◌+◌, ◌-◌, ◌∙◌, [], ◌∷◌, length, drop, get_or, set, slice_index, true, refl, sym, subst, length-set, arith}
 use Rattle.std.proofs.lemmas.Option.{slice_get_within}
 use Rattle.cd_tree.specs.Domains.{body_by, members_by, node_of}
 use Rattle.cd_tree.specs.KindSets.{no_kinds}
 use Rattle.cd_tree.specs.TreeModel.{FitsItems, NamesChildren}
 use Rattle.cd_tree.specs.Reading.{read_node, read_try, read_points, read_members}
 use Rattle.cd_tree.specs.Record.{case_of}
+use Rattle.cd_tree.proofs.View.{domain_fits}
 use Rattle.cd_reading.specs.Ends.{try_end, node_end, group_end}
 use Rattle.cd_reading.specs.Steps.{try_of}
 use Rattle.cd_reading.specs.Walk.{the_node, listed, AreCounts, item_counts}
 use Rattle.cd_reading.proofs.Quiet.{try_failed}
-use Rattle.cd_reading.proofs.Walking.{tree_fits, kinds_are, point_over, point_on, item_few, item_over, item_on, end_over, end_on, member_here, member_few, member_read, members_end}
+use Rattle.cd_reading.proofs.Walking.{ItemLeft, kinds_are, point_over, point_on, item_few, item_over, item_on, end_over, end_on, member_here, member_few, member_read, members_end}
 use Rattle.cd_reading.proofs.Following.{group_named, group_few, item_fits, points_next, points_none, no_id, members_next, members_none, tries_begin, try_few, begin_few, try_read, try_counts}
 use Rattle.cd_reading.proofs.walk.+reading.Goals as goal
+use Rattle.cd_reading.proofs.walk.+reading.Goals.{read_all_points-In-On}
 
 -- ---- an item
 
@@ -94,66 +96,45 @@ read_all_points-returns-in-Over-clause-reads t c =
     (points_next w find h c.loop-point.notes (listed c.loop-point.counts) items i c.index-items-point.result whole c.loop-point-test.true
     c.index-items-point.is c.loop-point.invariant)
 
+-- where the try goes on to the item, the item and the rest are what is left of it
+item_left : (t : ℕ) (c : read_all_points-In-On t)
+    → ItemLeft (case_of c.args.case.now.tree.now c.args.case.now.script.now) (node_of c.args.case.now.tree.now.domains) (try_of c.args.hand.now)
+    c.loop-point.point c.in-On.seen (listed c.loop-point.counts) c.index-items-point.result (drop (c.loop-point.point + 1) c.args.items.now)
+    (read_points (case_of c.args.case.now.tree.now c.args.case.now.script.now) (body_by (node_of c.args.case.now.tree.now.domains) c.args.items.now)
+    (try_of c.args.hand.now) 0 no_kinds (listed c.args.counts.now))
+item_left t c =
+    let w = case_of c.args.case.now.tree.now c.args.case.now.script.now in
+    let find = node_of c.args.case.now.tree.now.domains in
+    let h = try_of c.args.hand.now in
+    let i = c.loop-point.point in
+    point_on w find h i c.kinds_at-kinds.result c.args.case.now.halts c.loop-point.notes c.in-On.seen (listed c.loop-point.counts)
+    c.index-items-point.result (drop (i + 1) c.args.items.now) (read_points w (body_by find c.args.items.now) h 0 no_kinds (listed c.args.counts.now))
+    (kinds_are w.faults c.struck_at-faults.result.now h.node h.begin i c.kinds_at-kinds.result c.struck_at-faults.ensures c.kinds_at-kinds.ensures)
+    c.requires.case.halts (record { each = c.in-On.ensures.step })
+    (points_next w find h c.loop-point.notes (listed c.loop-point.counts) c.args.items.now i c.index-items-point.result
+    (read_points w (body_by find c.args.items.now) h 0 no_kinds (listed c.args.counts.now)) c.loop-point-test.true
+    c.index-items-point.is c.loop-point.invariant)
+
 pub read_all_points-pass_item-requires : goal.read_all_points-pass_item-requires
 read_all_points-pass_item-requires t c =
     let tree = c.args.case.now.tree.now in
-    let w = case_of tree c.args.case.now.script.now in
-    let find = node_of tree.domains in
-    let h = try_of c.args.hand.now in
-    let i = c.loop-point.point in
-    let items = c.args.items.now in
     let item = c.index-items-point.result in
-    let whole = read_points w (body_by find items) h 0 no_kinds (listed c.args.counts.now) in
-    let fits : FitsItems tree.domains h.node.0 (item ∷ []) =
-    item_fits tree.domains h.node.0 items i item c.loop-point-test.true c.index-items-point.is c.requires.items in
-    let left = point_on w find h i c.kinds_at-kinds.result c.args.case.now.halts c.loop-point.notes c.in-On.seen (listed c.loop-point.counts)
-    item (drop (i + 1) items) whole
-    (kinds_are w.faults c.struck_at-faults.result.now h.node h.begin i c.kinds_at-kinds.result c.struck_at-faults.ensures c.kinds_at-kinds.ensures)
-    c.requires.case.halts (record { each = c.in-On.ensures.step })
-    (points_next w find h c.loop-point.notes (listed c.loop-point.counts) items i item whole c.loop-point-test.true
-    c.index-items-point.is c.loop-point.invariant) in
-    let few : AreCounts (item_counts w find item (listed c.loop-point.counts)) =
-    item_few w find h i c.in-On.seen (listed c.loop-point.counts) item (drop (i + 1) items) whole c.requires.counts left in
+    let fits : FitsItems tree.domains c.args.hand.now.node.0 (item ∷ []) =
+    item_fits tree.domains c.args.hand.now.node.0 c.args.items.now c.loop-point.point item c.loop-point-test.true c.index-items-point.is c.requires.items in
+    let few : AreCounts (item_counts (case_of tree c.args.case.now.script.now) (node_of tree.domains) item (listed c.loop-point.counts)) =
+    item_few _ _ _ _ _ _ _ _ _ c.requires.counts (item_left t ((goal.at.read_all_points-pass_item-requires t c).In-On)) in
     let size : length c.loop-point.counts ≡ length tree.domains = c.loop-point.auto.counts ∙ c.requires.size in
     search (rules, fits, few, size)
 
 pub read_all_points-returns-in-Over-pass_item-clause-reads : goal.read_all_points-returns-in-Over-pass_item-clause-reads
 read_all_points-returns-in-Over-pass_item-clause-reads t c =
-    let tree = c.args.case.now.tree.now in
-    let w = case_of tree c.args.case.now.script.now in
-    let find = node_of tree.domains in
-    let h = try_of c.args.hand.now in
-    let i = c.loop-point.point in
-    let items = c.args.items.now in
-    let item = c.index-items-point.result in
-    let whole = read_points w (body_by find items) h 0 no_kinds (listed c.args.counts.now) in
-    let left = point_on w find h i c.kinds_at-kinds.result c.args.case.now.halts c.loop-point.notes c.in-On.seen (listed c.loop-point.counts)
-    item (drop (i + 1) items) whole
-    (kinds_are w.faults c.struck_at-faults.result.now h.node h.begin i c.kinds_at-kinds.result c.struck_at-faults.ensures c.kinds_at-kinds.ensures)
-    c.requires.case.halts (record { each = c.in-On.ensures.step })
-    (points_next w find h c.loop-point.notes (listed c.loop-point.counts) items i item whole c.loop-point-test.true
-    c.index-items-point.is c.loop-point.invariant) in
-    item_over w find h i c.in-On.seen c.in-Over-pass_item.end (listed c.loop-point.counts) (listed c.pass_item.new.counts) item (drop (i + 1) items) whole
-    (record { each = c.in-Over-pass_item.ensures.step }) left
+    item_over _ _ _ _ _ c.in-Over-pass_item.end _ (listed c.pass_item.new.counts) _ _ _ (record { each = c.in-Over-pass_item.ensures.step })
+    (item_left t ((goal.at.read_all_points-returns-in-Over-pass_item-clause-reads t c).In-On))
 
 pub read_all_points-loop-point-preserved : goal.read_all_points-loop-point-preserved
 read_all_points-loop-point-preserved t c =
-    let tree = c.args.case.now.tree.now in
-    let w = case_of tree c.args.case.now.script.now in
-    let find = node_of tree.domains in
-    let h = try_of c.args.hand.now in
-    let i = c.loop-point.point in
-    let items = c.args.items.now in
-    let item = c.index-items-point.result in
-    let whole = read_points w (body_by find items) h 0 no_kinds (listed c.args.counts.now) in
-    let left = point_on w find h i c.kinds_at-kinds.result c.args.case.now.halts c.loop-point.notes c.in-On.seen (listed c.loop-point.counts)
-    item (drop (i + 1) items) whole
-    (kinds_are w.faults c.struck_at-faults.result.now h.node h.begin i c.kinds_at-kinds.result c.struck_at-faults.ensures c.kinds_at-kinds.ensures)
-    c.requires.case.halts (record { each = c.in-On.ensures.step })
-    (points_next w find h c.loop-point.notes (listed c.loop-point.counts) items i item whole c.loop-point-test.true
-    c.index-items-point.is c.loop-point.invariant) in
-    item_on w find h i c.in-On.seen c.in-On-pass_item.all (listed c.loop-point.counts) (listed c.pass_item.new.counts) item (drop (i + 1) items) whole
-    (record { each = c.in-On-pass_item.ensures.step }) left
+    item_on _ _ _ _ _ c.in-On-pass_item.all _ (listed c.pass_item.new.counts) _ _ _ (record { each = c.in-On-pass_item.ensures.step })
+    (item_left t ((goal.at.read_all_points-loop-point-preserved t c).In-On))
 
 pub read_all_points-returns-in-On-arrive-clause-reads : goal.read_all_points-returns-in-On-arrive-clause-reads
 read_all_points-returns-in-On-arrive-clause-reads t c =
@@ -245,7 +226,7 @@ read_one_try-read_all_points-requires t c =
     let within : id.0 < length c.args.counts.now = omega (arith, c.requires.size) in
     let fits : FitsItems tree.domains id.0 items =
     subst (FitsItems tree.domains id.0) (sym c.items.ensures.value)
-    (tree_fits tree c.requires.case.sound id domain c.requires.domain).items in
+    (domain_fits tree c.requires.case.sound id domain c.requires.domain).items in
     let size : length now ≡ length tree.domains = length-set c.args.counts.now id.0 begin ∙ c.requires.size in
     let few : AreCounts (read_points w (body_by find items) (record { node = id; detects = domain.detects; begin = begin }) 0 no_kinds (listed now)).counts =
     try_counts (read_try w id domain (body_by find domain.items) true (listed c.args.counts.now))

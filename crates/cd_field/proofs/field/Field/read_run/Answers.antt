@@ -1,6 +1,10 @@
-use Rattle.std.proofs.Common.{arith}
-use Rattle.cd_field.proofs.RunLemmas.{read_all, read_more}
+use Rattle.std.proofs.Common.{arith, sym, ◌∙◌}
+use Rattle.cd_field.proofs.RunLemmas.{read_all, read_more, words_long}
 use Rattle.cd_field.proofs.field.Field.read_run.Goals as goal
+
+pub copy_from_slice-requires : goal.copy_from_slice-requires
+copy_from_slice-requires g c =
+    c.requires.long ∙ sym (words_long (g.Self.Field.model c.args.self.now).words c.args.range c.in-Some.lent.now c.in-Some.ensures)
 
 pub loop-index-preserved : goal.loop-index-preserved
 loop-index-preserved g c =

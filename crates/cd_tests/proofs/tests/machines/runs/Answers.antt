@@ -1,0 +1,11 @@
+use Rattle.std.proofs.Common.{◌≡◌, List, ℕ, false, sym, ◌∙◌}
+use Rattle.cd_app.specs.Calls.{Call, call_of}
+use Rattle.cd_tests.proofs.LookLemmas.{four_present}
+use Rattle.cd_tests.proofs.tests.machines.runs.Goals as goal
+
+pub returns : goal.returns
+returns g c =
+    let call : Call = call_of c.args.words.now (g.S.Source.model c.args.source.now) (g.S.Source.model c.run_cd-status.new.source)
+    (g.F.Field.model c.args.machine.now) (g.F.Field.model c.run_cd-status.new.machine) in
+    λ ran. four_present c.words_stay.ensures call (g.K.Sink.model c.args.sink.now) (g.K.Sink.model c.run_cd-status.new.sink) false
+    c.run_cd-status.result c.requires.run (sym c.comes_behind_a_run.ensures ∙ ran) c.run_cd-status.ensures c.requires.text

@@ -1,0 +1,15 @@
+use Rattle.std.proofs.Common.{rules, tests, ap, ◌∙◌}
+use Rattle.std.specs.Slice.Iter as slice
+use Rattle.std.proofs.lemmas.Iterator.Consumers.{map_from_collect, YieldsList-from_filter}
+use Rattle.std.proofs.lemmas.Iterator.Splits.{YieldsList-from_slice_split}
+use Rattle.cd_tokens.proofs.lines.pieces.Goals as goal
+
+pub returns : goal.returns
+returns c =
+    let source = c.filter.ensures.source in
+    map_from_collect _ c.collect.ensures.ran
+    (YieldsList-from_filter _ _
+    (YieldsList-from_slice_split _ _ c.args.said.now (ap slice.split_rest source ∙ c.split.ensures.rest)
+    (ap slice.split_done source ∙ c.split.ensures.done) (ap slice.split_callee source ∙ c.split.ensures.closure)
+    (λ x r q k. search (rules, tests)))
+    c.filter.ensures.closure (λ x r q k. search (rules, tests)))

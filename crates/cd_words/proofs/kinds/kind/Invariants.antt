@@ -1,6 +1,0 @@
-use Rattle.std.proofs.Common.{◌≡◌, drop}
-use Rattle.cd_words.specs.Kinds.{kind_from}
-use Rattle.cd_words.proofs.kinds.kind.Given as goal
-
-abbrev pub invariant-loop-number : goal.invariant-loop-number
-invariant-loop-number l = kind_from l.number (drop l.number l.kinds) l.name ≡ kind_from 0 l.kinds l.name

@@ -1,9 +1,0 @@
-use Rattle.std.proofs.Common.{rules}
-use Rattle.std.specs.Str.{IsUtf8}
-use Rattle.std.proofs.lemmas.Str.{IsUtf8-from_ascii}
-use Rattle.cd_words.proofs.NameLemmas.{base_ascii}
-use Rattle.cd_words.proofs.names.text_of.Goals as goal
-
-pub unwrap-text-requires : goal.unwrap-text-requires
-unwrap-text-requires c =
-    let text : IsUtf8 c.args.base.now = IsUtf8-from_ascii c.args.base.now (base_ascii c.args.base.now c.requires) in search rules

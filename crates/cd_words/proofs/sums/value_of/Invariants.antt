@@ -1,6 +1,0 @@
-use Rattle.std.proofs.Common.{◌≡◌, drop}
-use Rattle.cd_words.specs.Sums.{value_of}
-use Rattle.cd_words.proofs.sums.value_of.Given as goal
-
-abbrev pub invariant-loop-variable : goal.invariant-loop-variable
-invariant-loop-variable l = value_of (drop l.variable-index l.variables) l.name ≡ value_of l.variables l.name
