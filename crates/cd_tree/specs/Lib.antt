@@ -54,4 +54,3 @@ pub mod Begins
 pub mod FrontLaws
 -- legal records go together
 pub mod LegalLaws
-pub mod RecordLengths
