@@ -1,7 +1,7 @@
 -- A flat list of words and its table: where a word stands, and what a change of one item does.
-use Rattle.std.proofs.Common.{◌≡◌, ℕ, zero, suc, ◌+◌, ◌-◌, ◌<◌, ◌≤◌, ◌⊎◌, Bool, true, false, ◌&&◌, ◌||◌, nat_lt, nat_le, ◌==◌, cond, if◌then◌else◌, List, [], ◌∷◌, ◌++◌, length, set, replicate, ◌≢◌, IsSome, Option, None, Some, arith, refl, ap, subst, sym, ◌∙◌, inl, inr, append_assoc}
+use Rattle.std.proofs.Common.{◌≡◌, ℕ, zero, suc, ◌+◌, ◌-◌, ◌<◌, ◌≤◌, ◌⊎◌, Bool, true, false, ◌&&◌, ◌||◌, nat_lt, nat_le, ◌==◌, if◌then◌else◌, List, [], ◌∷◌, ◌++◌, length, set, replicate, IsSome, Option, None, Some, arith, refl, ap, subst, sym, ◌∙◌, inl, inr, append_assoc}
 use Rattle.std.specs.Prelude.{slice_get}
-use Rattle.std.proofs.lemmas.List.{get_or-set_same, get_or-set_other, length-set, length-append, replicate-append-replicate, get_or_append_left, get_or-append-add, get_or_push, get_or-replicate, length-replicate}
+use Rattle.std.proofs.lemmas.List.{length-append, replicate-append-replicate, get_or_append_left, get_or-append-add, get_or_push, get_or-replicate, length-replicate}
 use Rattle.std.proofs.lemmas.Option.{slice_get-get_or, slice_get_past}
 use Rattle.std.proofs.lemmas.Bool.{eq-eqb, and_from, cases_lt, cond-true, cond-false, false_from_ne_true}
 use Rattle.std.proofs.lemmas.Bool.Decides.{nat_tests}

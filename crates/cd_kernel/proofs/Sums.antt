@@ -1,5 +1,5 @@
 -- Sums and greatest words taken one by one, and sums in which most terms are nothing.
-use Rattle.std.proofs.Common.{◌≡◌, ℕ, zero, suc, ◌+◌, ◌*◌, ◌^◌, ◌<◌, ◌≤◌, max, arith, refl, ap, sym, ◌∙◌, add-one, inl, inr}
+use Rattle.std.proofs.Common.{◌≡◌, ℕ, zero, suc, ◌+◌, ◌*◌, ◌^◌, ◌<◌, ◌≤◌, max, List, get_or, arith, refl, ap, sym, ◌∙◌, add-one, inl, inr}
 use Rattle.std.proofs.Math.Nat.{add-mod-mod, mod-add-mod}
 use Rattle.std.proofs.lemmas.Bool.{cases_lt}
 use Rattle.cd_base.specs.declared.place.Range.{Range}
@@ -79,10 +79,25 @@ pub sum_read : (sum later n m : ℕ) (f g : ℕ → ℕ) → ((j : ℕ) → j < 
 sum_read sum later n m f g same is long =
     is ∙ ap (λ (v : ℕ). word_of (sum + v)) (total-same f g n same ∙ ap (total g) long)
 
-pub greatest_read : (most later n m : ℕ) (f g : ℕ → ℕ) → ((j : ℕ) → j < n → f j ≡ g j) → later ≡ max most (greatest f n) → n ≡ m
+greatest_read : (most later n m : ℕ) (f g : ℕ → ℕ) → ((j : ℕ) → j < n → f j ≡ g j) → later ≡ max most (greatest f n) → n ≡ m
     → later ≡ max most (greatest g m)
 greatest_read most later n m f g same is long =
     is ∙ ap (λ (v : ℕ). max most v) (greatest-same f g n same ∙ ap (greatest g) long)
+
+-- the same of words of a range that were read into a list, in a way that is known
+pub adding_read : (way : Gathering) (w : Words) (x : Range) (at before later n m : ℕ) (words : List ℕ) → way ≡ Adding
+    → ((j : ℕ) → j < n → get_or words j 0 ≡ nth_word w x (at + j)) → later ≡ word_of (before + total (λ j. get_or words j 0) n) → n ≡ m
+    → later ≡ gathered_on way w x at before m
+adding_read way w x at before later n m words is same made long =
+    sum_read before later n m (λ j. get_or words j 0) (λ j. nth_word w x (at + j)) same made long
+    ∙ sym (ap (λ (v : Gathering). gathered_on v w x at before m) is)
+
+pub comparing_read : (way : Gathering) (w : Words) (x : Range) (at before later n m : ℕ) (words : List ℕ) → way ≡ Comparing
+    → ((j : ℕ) → j < n → get_or words j 0 ≡ nth_word w x (at + j)) → later ≡ max before (greatest (λ j. get_or words j 0) n) → n ≡ m
+    → later ≡ gathered_on way w x at before m
+comparing_read way w x at before later n m words is same made long =
+    greatest_read before later n m (λ j. get_or words j 0) (λ j. nth_word w x (at + j)) same made long
+    ∙ sym (ap (λ (v : Gathering). gathered_on v w x at before m) is)
 
 -- what is made of words a block at a time
 pub none_gathered : (gathering : Gathering) (w : Words) (x : Range) → 0 ≡ gathered gathering w x 0

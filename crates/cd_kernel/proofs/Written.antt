@@ -1,9 +1,9 @@
 -- An operation that writes its destination word by word.
-use Rattle.std.proofs.Common.{◌≡◌, ◌≢◌, ℕ, ◌+◌, ◌-◌, ◌<◌, ◌≤◌, Bool, true, false, cond, Some, arith, refl, ap, sym, ◌∙◌, if◌then◌else◌, inl, inr}
+use Rattle.std.proofs.Common.{◌≡◌, ℕ, ◌+◌, ◌-◌, ◌<◌, ◌≤◌, true, false, Some, arith, refl, ap, if◌then◌else◌, inl, inr}
 use Rattle.std.proofs.Math.Path.{fun_ext}
 use Rattle.cd_base.specs.declared.place.Place.{Place}
 use Rattle.cd_base.specs.declared.place.Range.{Range}
-use Rattle.cd_base.specs.Words.{Words, in_range, same_place, put}
+use Rattle.cd_base.specs.Words.{Words, in_range}
 use Rattle.cd_tree.specs.declared.operation.Op.{Op}
 use Rattle.cd_tree.specs.Operations.{column, op_meaning, op_writes, length_of, IsFull, IsInStep}
 use Rattle.cd_kernel.specs.Computing.{nth_place}

@@ -338,14 +338,10 @@ fn each_table<F: Field>(alloc: Global, field: &mut F) -> Result<(), Fail> {
 
 #[test]
 fn operations_on_a_field_of_maps(rt: HostRuntime) -> Result<(), Fail> {
-    let alloc = rt.alloc();
-    let mut field = MapField::empty(alloc);
-    each_table(alloc, &mut field)
+    each_table(rt.alloc(), &mut MapField::empty(rt.alloc()))
 }
 
 #[test]
 fn operations_on_a_flat_field(rt: HostRuntime) -> Result<(), Fail> {
-    let alloc = rt.alloc();
-    let mut field = ScriptField::empty(alloc);
-    each_table(alloc, &mut field)
+    each_table(rt.alloc(), &mut ScriptField::empty(rt.alloc()))
 }

@@ -1,6 +1,5 @@
 use Rattle.std.proofs.Common.{rules, arith, ◌∷◌}
 use Rattle.cd_tree.specs.Operations.{op_reads, op_writes}
-use Rattle.cd_field.specs.FieldModel.{FieldModel}
 use Rattle.cd_kernel.proofs.Turns.{still_here, block_written}
 use Rattle.cd_kernel.proofs.operations.write_columns.Goals as goal
 

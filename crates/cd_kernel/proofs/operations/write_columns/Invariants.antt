@@ -1,4 +1,4 @@
-use Rattle.std.proofs.Common.{◌≡◌, ℕ, ◌<◌, ◌≤◌, ◌-◌, get_or, length}
+use Rattle.std.proofs.Common.{◌≡◌, ◌≤◌, ◌-◌}
 use Rattle.cd_kernel.proofs.Written.{words_to}
 use Rattle.cd_kernel.proofs.operations.write_columns.Given as goal
 

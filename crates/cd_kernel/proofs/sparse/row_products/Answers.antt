@@ -1,4 +1,4 @@
-use Rattle.std.proofs.Common.{◌≡◌, ℕ, ◌+◌, ◌<◌, List, length, ap, sym, ◌∙◌, arith}
+use Rattle.std.proofs.Common.{◌≡◌, ◌+◌, ◌<◌, length, ap, sym, ◌∙◌, arith}
 use Rattle.cd_base.specs.Words.{Words, word_of}
 use Rattle.cd_tree.specs.Operations.{length_of}
 use Rattle.cd_field.proofs.RunLemmas.{words_long}
