@@ -24,3 +24,11 @@ mod Commons
 mod EndsStand
 mod Making
 mod Advanced
+mod AskedWords
+mod AskedCounts
+mod AskedLinks
+mod Viewed
+mod AskedMembers
+mod Asking
+mod RootStands
+mod Sent
