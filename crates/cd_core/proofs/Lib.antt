@@ -24,3 +24,7 @@ mod Commons
 mod EndsStand
 mod Making
 mod Advanced
+mod GroupsGiven
+mod TakenBack
+mod AfterTaking
+mod FitsTaken
