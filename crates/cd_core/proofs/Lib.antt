@@ -32,3 +32,7 @@ mod AskedMembers
 mod Asking
 mod RootStands
 mod Sent
+mod GroupsGiven
+mod TakenBack
+mod AfterTaking
+mod FitsTaken

@@ -12,6 +12,7 @@ mod resume;
 mod sending;
 mod start;
 mod state;
+pub mod taking_laws;
 mod tries;
 mod verdict;
 
