@@ -24,3 +24,8 @@ mod Commons
 mod EndsStand
 mod Making
 mod Advanced
+mod Returning
+mod Counting
+mod Pairing
+mod MemberLinks
+mod AfterGroups
