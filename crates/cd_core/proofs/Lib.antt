@@ -24,6 +24,14 @@ mod Commons
 mod EndsStand
 mod Making
 mod Advanced
+mod AskedWords
+mod AskedCounts
+mod AskedLinks
+mod Viewed
+mod AskedMembers
+mod Asking
+mod RootStands
+mod Sent
 mod Returning
 mod Counting
 mod Pairing
