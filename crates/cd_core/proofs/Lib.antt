@@ -24,6 +24,10 @@ mod Commons
 mod EndsStand
 mod Making
 mod Advanced
+mod GroupsGiven
+mod TakenBack
+mod AfterTaking
+mod FitsTaken
 mod AskedWords
 mod AskedCounts
 mod AskedLinks

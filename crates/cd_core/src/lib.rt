@@ -13,6 +13,7 @@ pub mod returning_laws;
 mod sending;
 mod start;
 mod state;
+pub mod taking_laws;
 mod tries;
 mod verdict;
 
