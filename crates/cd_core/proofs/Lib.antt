@@ -36,3 +36,8 @@ mod GroupsGiven
 mod TakenBack
 mod AfterTaking
 mod FitsTaken
+mod Returning
+mod Counting
+mod Pairing
+mod MemberLinks
+mod AfterGroups

@@ -9,6 +9,7 @@ mod ending;
 mod laws_below;
 mod path;
 mod resume;
+pub mod returning_laws;
 mod sending;
 mod start;
 mod state;
