@@ -24,3 +24,8 @@ mod Commons
 mod EndsStand
 mod Making
 mod Advanced
+mod FitsBefore
+mod Courses
+mod FitsTries
+mod FitsEnds
+mod FitsStart

@@ -12,6 +12,7 @@ mod sending;
 mod start;
 mod state;
 mod tries;
+pub mod trying_laws;
 mod verdict;
 
 pub use start::start_root;
