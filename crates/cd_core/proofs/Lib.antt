@@ -41,3 +41,8 @@ mod Counting
 mod Pairing
 mod MemberLinks
 mod AfterGroups
+mod FitsBefore
+mod Courses
+mod FitsTries
+mod FitsEnds
+mod FitsStart

@@ -15,6 +15,7 @@ mod start;
 mod state;
 pub mod taking_laws;
 mod tries;
+pub mod trying_laws;
 mod verdict;
 
 pub use start::start_root;
