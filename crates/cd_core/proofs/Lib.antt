@@ -24,3 +24,9 @@ mod Commons
 mod EndsStand
 mod Making
 mod Advanced
+mod Members
+mod KeptRoom
+mod LinksBelow
+mod Apartness
+mod SentFit
+mod Sends

@@ -9,6 +9,7 @@ mod laws_below;
 mod path;
 mod resume;
 mod sending;
+pub mod sending_laws;
 mod start;
 mod state;
 mod tries;
