@@ -46,3 +46,9 @@ mod Courses
 mod FitsTries
 mod FitsEnds
 mod FitsStart
+mod Members
+mod KeptRoom
+mod LinksBelow
+mod Apartness
+mod SentFit
+mod Sends

@@ -11,6 +11,7 @@ mod path;
 mod resume;
 pub mod returning_laws;
 mod sending;
+pub mod sending_laws;
 mod start;
 mod state;
 pub mod taking_laws;

@@ -75,10 +75,7 @@ impl<F: Field, P: Pass> NodeState<F, P> {
     {
         let low = (id.0 - self.node.0) as usize;
         let high = (plan.tree().end_of(id) - self.node.0) as usize;
-        let mut counts = Vec::new(alloc);
-        for count in &self.counts[low..high] {
-            counts.push(*count)?;
-        }
+        let counts = Vec::from_slice(alloc, &self.counts[low..high])?;
         Ok(counts)
     }
 
