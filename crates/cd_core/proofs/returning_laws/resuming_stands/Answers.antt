@@ -20,4 +20,4 @@ returns c =
       stay = c.members_find_what_their_links_keep.ensures.words;
       read = c.subtrees_are_seen_on_paths.ensures.entries;
     } in
-    resuming_stands c.laws_below.ensures laws
+    resuming_stands c.laws_below.ensures laws c.resuming_fits.ensures
