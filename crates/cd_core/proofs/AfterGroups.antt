@@ -17,7 +17,7 @@ use Rattle.cd_tree.specs.declared.groups.GroupPlace.{GroupPlace}
 use Rattle.cd_tree.specs.Absorbing.{GiveMeanings}
 use Rattle.cd_tree.specs.CountLaws.{AgreeOn, ReadsOwnCounts, EachIsInOrder, read_each}
 use Rattle.cd_tree.specs.Domains.{Node, Body, Members, node, group, node_of, node_numbers, body_behind, members_by, numbers_from}
-use Rattle.cd_tree.specs.FirstItems.{BehindIsGroup, MembersAreNamed, MembersResumeIn, MembersTouchLess, IsMemberAt, resumed_words}
+use Rattle.cd_tree.specs.FirstItems.{MembersAreNamed, MembersResumeIn, MembersTouchLess, IsMemberAt, resumed_words}
 use Rattle.cd_tree.specs.Groups.{StandsIn, StandsAt as stands_at, HasMember}
 use Rattle.cd_tree.specs.KindSets.{no_kinds}
 use Rattle.cd_tree.specs.Legal.{Legal, entry_at}
@@ -26,7 +26,7 @@ use Rattle.cd_tree.specs.Meaning.{node_reads, node_writes, node_reach, LieIn}
 use Rattle.cd_tree.specs.Reading.{Case, Counts, Told, GroupEnd, AllDone, SomeEscalated, joined, read_members}
 use Rattle.cd_tree.specs.Scripts.{path_of}
 use Rattle.cd_tree.specs.Slices.{IsSlice}
-use Rattle.cd_tree.specs.SliceLaws.{SubtreesAreSlices, MembersAreSlices, MembersAreChildren}
+use Rattle.cd_tree.specs.SliceLaws.{SubtreesAreSlices, MembersAreChildren}
 use Rattle.cd_cover.specs.KeptWords.{OuterWordsStay}
 use Rattle.cd_cover.specs.Laws.{LinksLead}
 use Rattle.cd_cover.specs.Links.{link_of}
@@ -42,7 +42,7 @@ use Rattle.cd_core.specs.StateModel.{StateModel}
 use Rattle.cd_core.specs.Fits.{Fits, FitsStage, FitsWaiting}
 use Rattle.cd_core.specs.Tasks.{Task, task_case, counts_in, LinksAgree, LinksGive, KeepsGive}
 use Rattle.cd_core.specs.Stands.{Stands, StandsAt, StandsWaiting, AsSent, members_told}
-use Rattle.cd_core.specs.Asks.{EachAnswers, member_ask, task_of, foot_of, range_of, link_words, levels_below, laid_over, links_listed, counts_listed, counts_of}
+use Rattle.cd_core.specs.Asks.{EachAnswers, member_ask, task_of, foot_of, range_of, link_words, levels_below, laid_over, links_listed, counts_of}
 use Rattle.cd_core.specs.Advancing.{members_at, members_of_item}
 use Rattle.cd_core.specs.Resuming.{CanTakeEach, absorbed_all, joined_all, counts_taken, all_done, first_escalation, nodes_of, resumed, resumed_at, stage_behind}
 use Rattle.cd_core.specs.Steps.{IsWaiting, waits_at}
@@ -58,12 +58,13 @@ use Rattle.cd_core.proofs.Grounds.{view_in, body_in}
 use Rattle.cd_core.proofs.GroupsGiven.{GroupLaws, group_given}
 use Rattle.cd_core.proofs.Keeping.{all_give}
 use Rattle.cd_core.proofs.Lapses.{lapses}
-use Rattle.cd_core.proofs.MemberLinks.{foot_is, of_all, some_within, own_link, outer_link, listed_link}
+use Rattle.cd_core.proofs.MemberLinks.{of_all, some_within, own_link, outer_link, listed_link}
 use Rattle.cd_core.proofs.Pairing.{paired, paired_at, nodes_at, OneAnswer, one_answer, came_back, gives_meaning}
 use Rattle.cd_core.proofs.ReadyOnes.{task_at}
 use Rattle.cd_core.proofs.Returning.{CameBack, GivesMeaning, Left, all_left, events_of, all_told, all_legal, all_answered, told_end, all_end, NotesJoin, all_join, given_by, all_put, notes_none, all_meanings}
 use Rattle.cd_core.proofs.Standing.{task_is}
 use Rattle.cd_core.proofs.TakenBack.{Pairs}
+use Rattle.cd_core.proofs.Viewed.{foot_is}
 use Rattle.cd_core.proofs.Views.{FitsView, fits_view}
 
 -- the laws of lower crates on members
