@@ -1,20 +1,19 @@
 -- The counts of members that came back, put into those of their domain, are the counts after their group.
-use Rattle.std.proofs.Common.{◌≡◌, ℕ, zero, suc, ◌+◌, ◌-◌, ◌<◌, ◌≤◌, ◌==◌, true, false, List, [], ◌∷◌, ◌++◌, length, map, take, drop, get_or, refl, ap, subst, sym, ◌∙◌, append_assoc, arith}
+use Rattle.std.proofs.Common.{◌≡◌, ℕ, zero, suc, ◌+◌, ◌-◌, ◌<◌, ◌≤◌, ◌==◌, true, false, List, [], ◌∷◌, ◌++◌, length, map, take, drop, refl, ap, subst, sym, ◌∙◌, append_assoc, arith}
 use Rattle.std.proofs.lemmas.Bool.Decides.{nat_tests}
-use Rattle.std.proofs.lemmas.List.{length-append, length-map, map-append, take_at, drop_at, get_or-take, get_or-drop}
+use Rattle.std.proofs.lemmas.List.{length-append, length-map, map-append, take_at, drop_at}
 use Rattle.cd_base.specs.Words.{Words}
 use Rattle.cd_tree.specs.declared.domain.NodeId.{NodeId}
 use Rattle.cd_tree.specs.CountLaws.{AgreeOn, AreDistinct, counts_on, read_each}
-use Rattle.cd_tree.specs.Domains.{Node, Body, Members, stop, run, group, no_more, member, number_of, body_behind, numbers_from, node_numbers, body_numbers, member_numbers}
+use Rattle.cd_tree.specs.Domains.{Node, Body, Members, no_more, member, number_of, numbers_from, node_numbers, body_numbers, member_numbers}
 use Rattle.cd_tree.specs.Reading.{Case, Counts, read_node}
-use Rattle.cd_tree.specs.Slices.{IsSlice, among, in_slice, node_size, members_size, MembersFollow, GroupsFollow}
+use Rattle.cd_tree.specs.Slices.{IsSlice, among, in_slice, node_size, members_size, MembersFollow}
 use Rattle.cd_tree.proofs.Numbers.{copies-at_most_one}
 use Rattle.cd_tree.proofs.OtherCounts.{among_first}
 use Rattle.cd_tree.proofs.OtherParts.{on_inside, on_outside}
 use Rattle.cd_tree.proofs.Slices.{among_run}
 use Rattle.cd_cover.specs.Plans.{PlanModel}
 use Rattle.cd_core.specs.StateModel.{StateModel}
-use Rattle.cd_core.specs.Asks.{counts_listed, counts_of}
 use Rattle.cd_core.specs.Resuming.{put_at, counts_taken}
 use Rattle.cd_core.proofs.Choices.{or_right}
 use Rattle.cd_core.proofs.GroupsGiven.{GroupAt}
