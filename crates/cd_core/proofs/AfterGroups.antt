@@ -17,7 +17,7 @@ use Rattle.cd_tree.specs.declared.groups.GroupPlace.{GroupPlace}
 use Rattle.cd_tree.specs.Absorbing.{GiveMeanings}
 use Rattle.cd_tree.specs.CountLaws.{AgreeOn, ReadsOwnCounts, EachIsInOrder, read_each}
 use Rattle.cd_tree.specs.Domains.{Node, Body, Members, node, group, node_of, node_numbers, body_behind, members_by, numbers_from}
-use Rattle.cd_tree.specs.FirstItems.{BehindIsGroup, MembersAreNamed, MembersResumeIn, MembersTouchLess, IsMemberAt, resumed_words}
+use Rattle.cd_tree.specs.FirstItems.{MembersAreNamed, MembersResumeIn, MembersTouchLess, IsMemberAt, resumed_words}
 use Rattle.cd_tree.specs.Groups.{StandsIn, StandsAt as stands_at, HasMember}
 use Rattle.cd_tree.specs.KindSets.{no_kinds}
 use Rattle.cd_tree.specs.Legal.{Legal, entry_at}
@@ -26,7 +26,7 @@ use Rattle.cd_tree.specs.Meaning.{node_reads, node_writes, node_reach, LieIn}
 use Rattle.cd_tree.specs.Reading.{Case, Counts, Told, GroupEnd, AllDone, SomeEscalated, joined, read_members}
 use Rattle.cd_tree.specs.Scripts.{path_of}
 use Rattle.cd_tree.specs.Slices.{IsSlice}
-use Rattle.cd_tree.specs.SliceLaws.{SubtreesAreSlices, MembersAreSlices, MembersAreChildren}
+use Rattle.cd_tree.specs.SliceLaws.{SubtreesAreSlices, MembersAreChildren}
 use Rattle.cd_cover.specs.KeptWords.{OuterWordsStay}
 use Rattle.cd_cover.specs.Laws.{LinksLead}
 use Rattle.cd_cover.specs.Links.{link_of}
@@ -42,25 +42,29 @@ use Rattle.cd_core.specs.StateModel.{StateModel}
 use Rattle.cd_core.specs.Fits.{Fits, FitsStage, FitsWaiting}
 use Rattle.cd_core.specs.Tasks.{Task, task_case, counts_in, LinksAgree, LinksGive, KeepsGive}
 use Rattle.cd_core.specs.Stands.{Stands, StandsAt, StandsWaiting, AsSent, members_told}
-use Rattle.cd_core.specs.Asks.{EachAnswers, member_ask, task_of, foot_of, range_of, link_words, levels_below, laid_over, links_listed, counts_listed, counts_of}
+use Rattle.cd_core.specs.Asks.{EachAnswers, member_ask, task_of, foot_of, range_of, link_words, levels_below, laid_over, links_listed, counts_of}
 use Rattle.cd_core.specs.Advancing.{members_at, members_of_item}
 use Rattle.cd_core.specs.Resuming.{CanTakeEach, absorbed_all, joined_all, counts_taken, all_done, first_escalation, nodes_of, resumed, resumed_at, stage_behind}
 use Rattle.cd_core.specs.Steps.{IsWaiting, waits_at}
 use Rattle.cd_core.specs.StateLaws.{ResumingFits, ResumingStands}
 use Rattle.cd_core.specs.LawsBelow.{MoreLaws}
+use Rattle.cd_core.proofs.AfterTaking.{all_joined}
 use Rattle.cd_core.proofs.AskedCounts.{LiesBelow, counts_carried, counts_back}
 use Rattle.cd_core.proofs.AskedLinks.{links_back}
 use Rattle.cd_core.proofs.AskedWords.{words_back}
 use Rattle.cd_core.proofs.Choices.{or_left, or_right}
 use Rattle.cd_core.proofs.Counting.{LiesIn, IsPart, Apart, all_counted, own_stays, members_apart}
 use Rattle.cd_core.proofs.Grounds.{view_in, body_in}
+use Rattle.cd_core.proofs.GroupsGiven.{GroupLaws, group_given}
 use Rattle.cd_core.proofs.Keeping.{all_give}
 use Rattle.cd_core.proofs.Lapses.{lapses}
-use Rattle.cd_core.proofs.MemberLinks.{foot_is, of_all, some_within, own_link, outer_link, listed_link}
+use Rattle.cd_core.proofs.MemberLinks.{of_all, some_within, own_link, outer_link, listed_link}
 use Rattle.cd_core.proofs.Pairing.{paired, paired_at, nodes_at, OneAnswer, one_answer, came_back, gives_meaning}
 use Rattle.cd_core.proofs.ReadyOnes.{task_at}
-use Rattle.cd_core.proofs.Returning.{Paired, CameBack, GivesMeaning, Left, all_left, known_stays, events_of, all_told, all_legal, all_answered, told_end, all_end, NotesJoin, all_join, given_by, all_put, notes_none, all_meanings}
+use Rattle.cd_core.proofs.Returning.{CameBack, GivesMeaning, Left, all_left, events_of, all_told, all_legal, all_answered, told_end, all_end, NotesJoin, all_join, given_by, all_put, notes_none, all_meanings}
 use Rattle.cd_core.proofs.Standing.{task_is}
+use Rattle.cd_core.proofs.TakenBack.{Pairs}
+use Rattle.cd_core.proofs.Viewed.{foot_is}
 use Rattle.cd_core.proofs.Views.{FitsView, fits_view}
 
 -- the laws of lower crates on members
@@ -68,9 +72,8 @@ pub record MembersLaws : Type 0 where
   pub own : ReadsOwnCounts
   pub order : EachIsInOrder
   pub slices : SubtreesAreSlices
-  pub follow : MembersAreSlices
+  pub groups : GroupLaws
   pub children : MembersAreChildren
-  pub group : BehindIsGroup
   pub named : MembersAreNamed
   pub acts : DomainsActLocally
   pub shapes : ShapesFitInPrograms
@@ -141,7 +144,7 @@ module _ (l : MoreLaws) (r : MembersLaws) (plan : PlanModel) (s : StateModel) (d
       fits.group ∙ ap (λ (is : List NodeId). Some (Group is)) (sym ids)
 
   behind_is : body_behind point (body_in plan.tree domain) ≡ group ms rest
-  behind_is = r.group point find domain.items (nodes_of children) group_is
+  behind_is = r.groups.group point find domain.items (nodes_of children) group_is
 
   are : stands.at.members ≡ ms
   are =
@@ -152,14 +155,16 @@ module _ (l : MoreLaws) (r : MembersLaws) (plan : PlanModel) (s : StateModel) (d
   one : (j : ℕ) (child : StateModel) → slice_get children j ≡ Some child → OneAnswer plan s.field.script loaded s child
   one j child e = one_answer plan s.field.script loaded s commit children takes answers j child e
 
-  parts : Paired (λ x c. IsPart x c) ms children
+  parts : Pairs (λ x c. IsPart x c) ms children
   parts =
       paired (λ x c. IsPart x c) find children
       (λ j child e. (let o : OneAnswer plan s.field.script loaded s child = one j child e in
       (o.domain, o.is, record { number = o.stands.domain; slice = r.slices plan.tree is_plan.program child.node o.domain o.is })))
 
   apart : Apart s.node.0 size ms children
-  apart = members_apart point s.node.0 size (body_in plan.tree domain) ms rest children (r.follow plan.tree is_plan.program s.node d is_here) behind_is (omega arith) parts
+  apart =
+      members_apart s.node.0 size (body_in plan.tree domain) ms children
+      (group_given r.groups plan s.node domain point (nodes_of children) is_plan listed group_is) (omega arith) parts
 
   run : node_numbers d ≡ numbers_from s.node.0 size
   run = r.slices plan.tree is_plan.program s.node d is_here
@@ -184,7 +189,7 @@ module _ (l : MoreLaws) (r : MembersLaws) (plan : PlanModel) (s : StateModel) (d
       counts_carried sent s.node child.node d o.domain s.counts stands.counts run slice refl o.stands.domain below in
       λ n h. sym (counts_back sent o.domain own carried slice n h)
 
-  came : Paired (λ x c. CameBack plan w loaded sent x c) ms children
+  came : Pairs (λ x c. CameBack plan w loaded sent x c) ms children
   came =
       paired (λ x c. CameBack plan w loaded sent x c) find children
       (λ j child e. (let o : OneAnswer plan s.field.script loaded s child = one j child e in
@@ -311,7 +316,7 @@ module _ (l : MoreLaws) (r : MembersLaws) (plan : PlanModel) (s : StateModel) (d
       let J : GroupEnd → Type 0 = λ g. NotesJoin g s.field.notes (absorbed_all true children s.field).notes in
       let join : (absorbed_all true children s.field).notes ≡ bit_or s.field.notes leaks = subst J done notes_now in
       let none : (s.field.notes ≡ no_kinds) × (leaks ≡ no_kinds) = notes_none s.field.notes leaks (sym join ∙ quiet) in
-      let gives : Paired (λ x c. GivesMeaning w sent s.field.words x c) ms children =
+      let gives : Pairs (λ x c. GivesMeaning w sent s.field.words x c) ms children =
       paired (λ x c. GivesMeaning w sent s.field.words x c) find children
       (λ j child e. (let o : OneAnswer plan s.field.script loaded s child = one j child e in
       let task : Task = task_of plan s.field.script loaded (member_ask plan s child.node o.domain) o.domain in (
@@ -343,7 +348,7 @@ module _ (l : MoreLaws) (r : MembersLaws) (plan : PlanModel) (s : StateModel) (d
       let K : Known → Type 0 = λ known. KeepsGive known t s.node 0 domain.entries s.keeps in
       record {
         begin = (all_left (all_done first) children s.field).begin ∙ stands.sent.begin ∙ own_now;
-        keeps = subst K (sym (known_stays children s.pass)) stands.sent.keeps;
+        keeps = subst K (sym (all_joined children s.pass).known) stands.sent.keeps;
       }
 
   stage_stands : (g : GroupEnd) → all.answer ≡ g → StandsAt plan t (state_with (told_end plan g)) (stage_behind domain.detects spare point (told_end plan g))
@@ -388,7 +393,7 @@ module _ (l : MoreLaws) (r : MembersLaws) (plan : PlanModel) (s : StateModel) (d
         script = left.script ∙ st.script;
         carved = subst C (sym left.carved) st.carved;
         lapses = all_answered plan w loaded sent ms children came (all_done first) s.field s.pass st.lapses;
-        links = subst K (sym (known_stays children s.pass)) st.links;
+        links = subst K (sym (all_joined children s.pass).known) st.links;
         stage = stage_stands all.answer refl;
       }))
 

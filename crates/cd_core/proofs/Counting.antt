@@ -1,23 +1,24 @@
 -- The counts of members that came back, put into those of their domain, are the counts after their group.
-use Rattle.std.proofs.Common.{◌≡◌, ℕ, zero, suc, ◌+◌, ◌-◌, ◌<◌, ◌≤◌, ◌==◌, true, false, List, [], ◌∷◌, ◌++◌, length, map, take, drop, get_or, refl, ap, subst, sym, ◌∙◌, append_assoc, arith}
+use Rattle.std.proofs.Common.{◌≡◌, ℕ, zero, suc, ◌+◌, ◌-◌, ◌<◌, ◌≤◌, ◌==◌, true, false, List, [], ◌∷◌, ◌++◌, length, map, take, drop, refl, ap, subst, sym, ◌∙◌, append_assoc, arith}
 use Rattle.std.proofs.lemmas.Bool.Decides.{nat_tests}
-use Rattle.std.proofs.lemmas.List.{length-append, length-map, map-append, take_at, drop_at, get_or-take, get_or-drop}
+use Rattle.std.proofs.lemmas.List.{length-append, length-map, map-append, take_at, drop_at}
 use Rattle.cd_base.specs.Words.{Words}
 use Rattle.cd_tree.specs.declared.domain.NodeId.{NodeId}
 use Rattle.cd_tree.specs.CountLaws.{AgreeOn, AreDistinct, counts_on, read_each}
-use Rattle.cd_tree.specs.Domains.{Node, Body, Members, stop, run, group, no_more, member, number_of, body_behind, numbers_from, node_numbers, body_numbers, member_numbers}
+use Rattle.cd_tree.specs.Domains.{Node, Body, Members, no_more, member, number_of, numbers_from, node_numbers, body_numbers, member_numbers}
 use Rattle.cd_tree.specs.Reading.{Case, Counts, read_node}
-use Rattle.cd_tree.specs.Slices.{IsSlice, among, in_slice, node_size, members_size, MembersFollow, GroupsFollow}
+use Rattle.cd_tree.specs.Slices.{IsSlice, among, in_slice, node_size, members_size, MembersFollow}
 use Rattle.cd_tree.proofs.Numbers.{copies-at_most_one}
 use Rattle.cd_tree.proofs.OtherCounts.{among_first}
 use Rattle.cd_tree.proofs.OtherParts.{on_inside, on_outside}
 use Rattle.cd_tree.proofs.Slices.{among_run}
 use Rattle.cd_cover.specs.Plans.{PlanModel}
 use Rattle.cd_core.specs.StateModel.{StateModel}
-use Rattle.cd_core.specs.Asks.{counts_listed, counts_of}
 use Rattle.cd_core.specs.Resuming.{put_at, counts_taken}
 use Rattle.cd_core.proofs.Choices.{or_right}
-use Rattle.cd_core.proofs.Returning.{Paired, CameBack}
+use Rattle.cd_core.proofs.GroupsGiven.{GroupAt}
+use Rattle.cd_core.proofs.Returning.{CameBack}
+use Rattle.cd_core.proofs.TakenBack.{Pairs}
 
 -- ---- runs of numbers
 
@@ -113,7 +114,7 @@ pub record LiesIn (first n : ℕ) (d : Node) (child : StateModel) : Type 0 where
   pub high : child.node.0 + length (node_numbers d) ≤ first + n
 
 pub all_counted : (plan : PlanModel) (w : Case) (loaded : Words) (sent : Counts) (first : NodeId) (n : ℕ) (members : Members) (children : List StateModel)
-    (now : Counts) → Paired (CameBack plan w loaded sent) members children → Paired (LiesIn first.0 n) members children
+    (now : Counts) → Pairs (CameBack plan w loaded sent) members children → Pairs (LiesIn first.0 n) members children
     → counts_taken first children (map now (numbers_from first.0 n)) ≡ map (read_each w members sent now).counts (numbers_from first.0 n)
 all_counted plan w loaded sent first n no_more [] now came lie = refl
 all_counted plan w loaded sent first n no_more (child ∷ children) now came lie = absurd came
@@ -130,7 +131,7 @@ all_counted plan w loaded sent first n (member d rest) (child ∷ children) now 
 
 -- the counts below all of them stay
 pub own_stays : (w : Case) (sent : Counts) (first n : ℕ) (members : Members) (children : List StateModel) (now : Counts) (k : ℕ) → k ≤ first
-    → Paired (LiesIn first n) members children → (read_each w members sent now).counts k ≡ now k
+    → Pairs (LiesIn first n) members children → (read_each w members sent now).counts k ≡ now k
 own_stays w sent first n no_more [] now k low lie = refl
 own_stays w sent first n no_more (child ∷ children) now k low lie = absurd lie
 own_stays w sent first n (member d rest) [] now k low lie = absurd lie
@@ -149,39 +150,8 @@ pub record IsPart (d : Node) (child : StateModel) : Type 0 where
   pub number : number_of d ≡ child.node.0
   pub slice : IsSlice d
 
--- the members of a group of a body, from a number on
-record FollowIn (at size : ℕ) (members : Members) : Type 0 where
-  first : ℕ
-  follow : MembersFollow first members
-  low : at ≤ first
-  high : first + members_size members ≤ at + size
-
-follow_at : (k at : ℕ) (body : Body) (members : Members) (rest : Body) → GroupsFollow at body → body_behind k body ≡ group members rest
-    → FollowIn at (length (body_numbers body)) members
-follow_at zero at stop members rest follow e = absurd (cc)
-follow_at zero at (run op more) members rest follow e = absurd (cc)
-follow_at zero at (group ms more) members rest follow e =
-    let same : ms ≡ members = cc in
-    let F : Members → Type 0 = λ x. FollowIn at (length (body_numbers (group ms more))) x in
-    subst F same (record {
-      first = at;
-      follow = follow.0;
-      low = omega arith;
-      high = omega (arith, length-append (member_numbers ms) (body_numbers more));
-    })
-follow_at (suc k) at stop members rest follow e = absurd (cc)
-follow_at (suc k) at (run op more) members rest follow e = follow_at k at more members rest follow e
-follow_at (suc k) at (group ms more) members rest follow e =
-    let f : FollowIn (at + members_size ms) (length (body_numbers more)) members = follow_at k (at + members_size ms) more members rest follow.1 e in
-    record {
-      first = f.first;
-      follow = f.follow;
-      low = omega (arith, f.low);
-      high = omega (arith, f.high, length-append (member_numbers ms) (body_numbers more));
-    }
-
 lie_from : (at first n : ℕ) (members : Members) (children : List StateModel) → MembersFollow at members → first < at
-    → at + members_size members ≤ first + n → Paired IsPart members children → Paired (LiesIn first n) members children
+    → at + members_size members ≤ first + n → Pairs IsPart members children → Pairs (LiesIn first n) members children
 lie_from at first n no_more [] follow low high parts = tt
 lie_from at first n no_more (child ∷ children) follow low high parts = absurd parts
 lie_from at first n (member d rest) [] follow low high parts = absurd parts
@@ -200,7 +170,7 @@ lie_from at first n (member d rest) (child ∷ children) follow low high parts =
     )
 
 -- the numbers of members that follow each other are a run
-run_from : (at : ℕ) (members : Members) (children : List StateModel) → MembersFollow at members → Paired IsPart members children
+run_from : (at : ℕ) (members : Members) (children : List StateModel) → MembersFollow at members → Pairs IsPart members children
     → member_numbers members ≡ numbers_from at (length (member_numbers members))
 run_from at no_more [] follow parts = refl
 run_from at no_more (child ∷ children) follow parts = absurd parts
@@ -217,16 +187,14 @@ run_from at (member d rest) (child ∷ children) follow parts =
 
 -- the members of a group lie in their domain, and are distinct
 pub record Apart (first n : ℕ) (members : Members) (children : List StateModel) : Type 0 where
-  pub lie : Paired (LiesIn first n) members children
+  pub lie : Pairs (LiesIn first n) members children
   pub distinct : AreDistinct (member_numbers members)
 
-pub members_apart : (k first n : ℕ) (body : Body) (members : Members) (rest : Body) (children : List StateModel)
-    → GroupsFollow (suc first) body → body_behind k body ≡ group members rest → suc (length (body_numbers body)) ≤ n
-    → Paired IsPart members children → Apart first n members children
-members_apart k first n body members rest children follow e size parts =
-    let f : FollowIn (suc first) (length (body_numbers body)) members = follow_at k (suc first) body members rest follow e in
+pub members_apart : (first n : ℕ) (body : Body) (members : Members) (children : List StateModel) → GroupAt body (suc first) members
+    → suc (length (body_numbers body)) ≤ n → Pairs IsPart members children → Apart first n members children
+members_apart first n body members children g size parts =
     let D : List ℕ → Type 0 = λ ns. AreDistinct ns in
     record {
-      lie = lie_from f.first first n members children f.follow (omega (arith, f.low)) (omega (arith, f.high, size)) parts;
-      distinct = subst D (sym (run_from f.first members children f.follow parts)) (λ k. copies-at_most_one k f.first (length (member_numbers members)));
+      lie = lie_from g.from first n members children g.follow (omega (arith, g.low)) (omega (arith, g.within, size)) parts;
+      distinct = subst D (sym (run_from g.from members children g.follow parts)) (λ k. copies-at_most_one k g.from (length (member_numbers members)));
     }

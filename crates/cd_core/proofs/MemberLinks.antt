@@ -1,9 +1,8 @@
 -- The links of a member agree with the words that it is sent with, where those of its domain agreed with the words of its begin.
-use Rattle.std.proofs.Common.{◌≡◌, ℕ, zero, suc, ◌<◌, ◌≤◌, ◌==◌, true, false, List, [], ◌∷◌, get_or, length, Option, None, Some, slice_get, unwrap_or, IsSome, IsSomeAnd, Contains, All, refl, subst, sym, ◌∙◌, arith}
+use Rattle.std.proofs.Common.{◌≡◌, ℕ, zero, suc, ◌<◌, ◌≤◌, ◌==◌, true, false, List, [], ◌∷◌, Option, None, Some, slice_get, IsSome, IsSomeAnd, Contains, All, refl, subst, sym, ◌∙◌, arith}
 use Rattle.std.specs.Option.{option_and_then}
 use Rattle.std.proofs.lemmas.Bool.{eq-eqb}
 use Rattle.std.proofs.lemmas.Bool.Decides.{nat_tests}
-use Rattle.std.proofs.lemmas.Option.{slice_get-get_or}
 use Rattle.cd_base.specs.declared.place.Place.{Place}
 use Rattle.cd_base.specs.declared.place.Range.{Range}
 use Rattle.cd_base.specs.Words.{Words, in_range}
@@ -13,12 +12,8 @@ use Rattle.cd_tree.specs.declared.domain.Entry.{Entry}
 use Rattle.cd_tree.specs.declared.domain.How.{How}
 use Rattle.cd_tree.specs.declared.domain.How.TheVariants as how
 use Rattle.cd_tree.specs.declared.domain.Domain.{Domain}
-use Rattle.cd_tree.specs.Domains.{Node, node_of, nodes_from}
 use Rattle.cd_tree.specs.Legal.{entry_at, OfPattern}
 use Rattle.cd_tree.specs.Locality.{SameWords}
-use Rattle.cd_tree.proofs.View.{length-nodes_from}
-use Rattle.cd_foot.specs.declared.footprints.Foot.{Foot}
-use Rattle.cd_foot.specs.Feet.{IsFoot}
 use Rattle.cd_cover.specs.Laws.{LinksLead, HoldsLink}
 use Rattle.cd_cover.specs.Links.{link_of, is_kept, holds_range}
 use Rattle.cd_cover.specs.Plans.{PlanModel, IsPlan}
@@ -28,23 +23,9 @@ use Rattle.cd_tries.specs.declared.keep.Pieces.{Pieces}
 use Rattle.cd_tries.specs.Keeping.{Known, KeepFits, KeepsFit, keep_words, pieces_of, pieces_in, piece_words, linked, linked_by}
 use Rattle.cd_tries.specs.TryLaws.{EachGives}
 use Rattle.cd_core.specs.StateModel.{StateModel}
-use Rattle.cd_core.specs.Asks.{foot_of, laid_over, levels_below, link_words}
+use Rattle.cd_core.specs.Asks.{laid_over, levels_below, link_words}
 use Rattle.cd_core.proofs.AskedWords.{words_back}
 use Rattle.cd_core.proofs.Choices.{chosen, other, or_left}
-use Rattle.cd_core.proofs.Facts.{listed_below}
-
--- ---- footprints
-
--- the footprint of a domain of a plan
-pub foot_is : (plan : PlanModel) (id : NodeId) (d : Node) → IsPlan plan → node_of plan.tree.domains id ≡ Some d → IsFoot d (foot_of plan id)
-foot_is plan id d is_plan is =
-    let blank : Foot = record { reads = []; writes = []; reach = [] } in
-    let foot : Foot = get_or plan.feet id.0 blank in
-    let below : id.0 < length (nodes_from 0 plan.tree.domains) = listed_below (nodes_from 0 plan.tree.domains) id.0 d is in
-    let within : id.0 < length plan.feet = omega (arith, below, length-nodes_from 0 plan.tree.domains, is_plan.footprints.size) in
-    let there : slice_get plan.feet id.0 ≡ Some foot = slice_get-get_or plan.feet id.0 blank within in
-    let P : Option Foot → Type 0 = λ o. IsFoot d (unwrap_or o blank) in
-    subst P (sym there) (is_plan.footprints.each id d foot is there)
 
 -- ---- what the keeps of an entry give
 

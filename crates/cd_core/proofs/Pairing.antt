@@ -26,36 +26,37 @@ use Rattle.cd_core.specs.Asks.{Answers, EachAnswers, member_ask, task_of}
 use Rattle.cd_core.specs.Resuming.{CanTakeEach, nodes_of}
 use Rattle.cd_core.proofs.Choices.{or_left, or_right}
 use Rattle.cd_core.proofs.Counting.{map_same}
-use Rattle.cd_core.proofs.Returning.{Paired, CameBack, GivesMeaning}
+use Rattle.cd_core.proofs.Returning.{CameBack, GivesMeaning}
+use Rattle.cd_core.proofs.TakenBack.{Pairs}
 
 -- ---- one after another
 
 -- a property of the state that came back for each member, found by its number
 pub paired : (P : Node → StateModel → Type 0) (find : NodeId → Option Node) (children : List StateModel)
     → ((j : ℕ) (child : StateModel) → slice_get children j ≡ Some child → (d : Node) × (find child.node ≡ Some d) × P d child)
-    → Paired P (members_by find (nodes_of children)) children
+    → Pairs P (members_by find (nodes_of children)) children
 paired P find [] each = tt
 paired P find (child ∷ children) each =
     let here : (d : Node) × (find child.node ≡ Some d) × P d child = each 0 child refl in
-    let Q : Option Node → Type 0 = λ o. Paired P (put_first o (members_by find (nodes_of children))) (child ∷ children) in
+    let Q : Option Node → Type 0 = λ o. Pairs P (put_first o (members_by find (nodes_of children))) (child ∷ children) in
     subst Q (sym here.1) (here.2, paired P find children (λ j one e. each (suc j) one e))
 
 pub paired_at : (P : Node → StateModel → Type 0) (find : NodeId → Option Node) (children : List StateModel)
     → ((j : ℕ) (child : StateModel) → slice_get children j ≡ Some child → (d : Node) × (find child.node ≡ Some d))
-    → Paired P (members_by find (nodes_of children)) children → (j : ℕ) (child : StateModel) → slice_get children j ≡ Some child
+    → Pairs P (members_by find (nodes_of children)) children → (j : ℕ) (child : StateModel) → slice_get children j ≡ Some child
     → (d : Node) → find child.node ≡ Some d → P d child
 paired_at P find [] found all j child e d is = absurd (cc)
 paired_at P find (first ∷ children) found all zero child e d is =
     let same : first ≡ child = cc in
     let here : find first.node ≡ Some d = ap (λ (x : StateModel). find x.node) same ∙ is in
-    let Q : Option Node → Type 0 = λ o. Paired P (put_first o (members_by find (nodes_of children))) (first ∷ children) in
-    let both : P d first × Paired P (members_by find (nodes_of children)) children = subst Q here all in
+    let Q : Option Node → Type 0 = λ o. Pairs P (put_first o (members_by find (nodes_of children))) (first ∷ children) in
+    let both : P d first × Pairs P (members_by find (nodes_of children)) children = subst Q here all in
     let R : StateModel → Type 0 = λ x. P d x in
     subst R same both.0
 paired_at P find (first ∷ children) found all (suc j) child e d is =
     let one : (d : Node) × (find first.node ≡ Some d) = found 0 first refl in
-    let Q : Option Node → Type 0 = λ o. Paired P (put_first o (members_by find (nodes_of children))) (first ∷ children) in
-    let both : P one.0 first × Paired P (members_by find (nodes_of children)) children = subst Q one.1 all in
+    let Q : Option Node → Type 0 = λ o. Pairs P (put_first o (members_by find (nodes_of children))) (first ∷ children) in
+    let both : P one.0 first × Pairs P (members_by find (nodes_of children)) children = subst Q one.1 all in
     paired_at P find children (λ k x h. found (suc k) x h) both.1 j child e d is
 
 -- what can be taken has ended, and fits

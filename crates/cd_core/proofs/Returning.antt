@@ -30,13 +30,7 @@ use Rattle.cd_core.specs.StateModel.{StateModel}
 use Rattle.cd_core.specs.Stands.{NotesAreLeak, ending_of, named}
 use Rattle.cd_core.specs.Resuming.{absorbed_all, joined_all, escalation, first_escalation, with_more}
 use Rattle.cd_core.proofs.Lapses.{lapses}
-
--- a property of each member of a group and of the state that came back for it
-abbrev pub Paired : (Node → StateModel → Type 0) → Members → List StateModel → Type 0
-Paired P no_more [] = Unit {0}
-Paired P no_more (child ∷ children) = ⊥
-Paired P (member first rest) [] = ⊥
-Paired P (member first rest) (child ∷ children) = P first child × Paired P rest children
+use Rattle.cd_core.proofs.TakenBack.{Pairs}
 
 -- a member came back, as its reading is from the counts with which all were sent
 pub record CameBack (plan : PlanModel) (w : Case) (loaded : Words) (sent : Counts) (d : Node) (child : StateModel) : Type 0 where
@@ -73,11 +67,6 @@ all_left commit (child ∷ children) m =
       carved = rest.carved ∙ one.carved;
     }
 
--- what is known stays
-pub known_stays : (children : List StateModel) (p : PassModel) → (joined_all children p).known ≡ p.known
-known_stays [] p = refl
-known_stays (child ∷ children) p = known_stays children (joined p child.pass)
-
 -- ---- records
 
 -- the records of all
@@ -98,7 +87,7 @@ all_told commit (child ∷ children) m =
 
 -- they are legal for what the members tell
 pub all_legal : LegalPieces → (plan : PlanModel) (w : Case) (loaded : Words) (sent : Counts) (members : Members) (children : List StateModel) (now : Counts)
-    → Paired (CameBack plan w loaded sent) members children
+    → Pairs (CameBack plan w loaded sent) members children
     → Legal plan.tree loaded (events_of children) (read_each w members sent now).past.events
 all_legal pieces plan w loaded sent no_more [] now came = nothing
 all_legal pieces plan w loaded sent no_more (child ∷ children) now came = absurd came
@@ -110,7 +99,7 @@ all_legal pieces plan w loaded sent (member first rest) (child ∷ children) now
 
 -- lapses stay answered
 pub all_answered : (plan : PlanModel) (w : Case) (loaded : Words) (sent : Counts) (members : Members) (children : List StateModel)
-    → Paired (CameBack plan w loaded sent) members children → (commit : Bool) (m : FieldModel) (p : PassModel) → lapses m.events ≤ length p.gone
+    → Pairs (CameBack plan w loaded sent) members children → (commit : Bool) (m : FieldModel) (p : PassModel) → lapses m.events ≤ length p.gone
     → lapses (absorbed_all commit children m).events ≤ length (joined_all children p).gone
 all_answered plan w loaded sent no_more [] came commit m p few = few
 all_answered plan w loaded sent no_more (child ∷ children) came commit m p few = absurd came
@@ -140,7 +129,7 @@ one_end plan (escalated cause over) (AllDone leaks) = refl
 one_end plan (escalated cause over) (SomeEscalated other more) = refl
 
 pub all_end : (plan : PlanModel) (w : Case) (loaded : Words) (sent : Counts) (members : Members) (children : List StateModel) (now : Counts)
-    → Paired (CameBack plan w loaded sent) members children → first_escalation children ≡ told_end plan (read_each w members sent now).answer
+    → Pairs (CameBack plan w loaded sent) members children → first_escalation children ≡ told_end plan (read_each w members sent now).answer
 all_end plan w loaded sent no_more [] now came = refl
 all_end plan w loaded sent no_more (child ∷ children) now came = absurd came
 all_end plan w loaded sent (member first rest) [] now came = absurd came
@@ -167,7 +156,7 @@ one_joins plan (escalated cause over) (AllDone leaks) m before after leaks_it jo
 one_joins plan (escalated cause over) (SomeEscalated other more) m before after leaks_it join = tt
 
 pub all_join : (plan : PlanModel) (w : Case) (loaded : Words) (sent : Counts) (members : Members) (children : List StateModel) (now : Counts) (m : FieldModel)
-    → Paired (CameBack plan w loaded sent) members children
+    → Pairs (CameBack plan w loaded sent) members children
     → NotesJoin (read_each w members sent now).answer m.notes (absorbed_all true children m).notes
 all_join plan w loaded sent no_more [] now m came = sym (bit_or-none m.notes)
 all_join plan w loaded sent no_more (child ∷ children) now m came = absurd came
@@ -186,7 +175,7 @@ given_by [] = []
 given_by (child ∷ children) = child.field.words ∷ given_by children
 
 pub all_put : (plan : PlanModel) (w : Case) (loaded : Words) (sent : Counts) (members : Members) (children : List StateModel) (m : FieldModel)
-    → Paired (CameBack plan w loaded sent) members children
+    → Pairs (CameBack plan w loaded sent) members children
     → (absorbed_all true children m).words ≡ put_in members (given_by children) m.words
 all_put plan w loaded sent no_more [] m came = refl
 all_put plan w loaded sent no_more (child ∷ children) m came = absurd came
@@ -227,7 +216,7 @@ GivesMeaning w sent before d child =
     (read_node w d sent).answer ≡ done no_kinds → SameWords (node_writes d) child.field.words (node_meaning d before)
 
 pub all_meanings : (w : Case) (sent : Counts) (before : Words) (members : Members) (children : List StateModel) (now : Counts)
-    → Paired (GivesMeaning w sent before) members children → (read_each w members sent now).answer ≡ AllDone no_kinds
+    → Pairs (GivesMeaning w sent before) members children → (read_each w members sent now).answer ≡ AllDone no_kinds
     → GiveMeanings members before (given_by children)
 all_meanings w sent before no_more [] now gives quiet = tt
 all_meanings w sent before no_more (child ∷ children) now gives quiet = absurd gives

@@ -1,15 +1,17 @@
 //! Laws of members that come back: the domain that waited for them stands after its group.
-ghost use Rattle.cd_core.specs.StateLaws.{ResumingFits, ResumingStands};
+ghost use Rattle.cd_core.specs.StateLaws.{ResumingStands};
 
 use crate::laws_below::laws_below;
+use crate::taking_laws::resuming_fits;
 use cd_cover::laws as plan_laws;
 use cd_tree::laws as tree_laws;
 
 /// A domain that stands waiting stands after its members have come back, each as it was asked for.
 pub fn resuming_stands()
-    ensures { ResumingFits → ResumingStands }
+    ensures { ResumingStands }
 {
     laws_below();
+    resuming_fits();
     tree_laws::readings_know_their_own_counts();
     tree_laws::members_are_read_each_by_itself();
     tree_laws::subtrees_are_slices();

@@ -7,9 +7,13 @@ returns c =
       own = c.readings_know_their_own_counts.ensures.domains;
       order = c.members_are_read_each_by_itself.ensures;
       slices = c.subtrees_are_slices.ensures.slices;
-      follow = c.subtrees_are_slices.ensures.members;
+      groups = record {
+        follows = c.laws_below.ensures.follows;
+        disjoint = c.each_domain_is_as_its_program.ensures.disjoint;
+        slices = c.subtrees_are_slices.ensures.members;
+        group = c.a_body_follows_its_items.ensures.group;
+      };
       children = c.children_stand_once.ensures.children;
-      group = c.a_body_follows_its_items.ensures.group;
       named = c.a_body_follows_its_items.ensures.members;
       acts = c.a_domain_sees_what_it_reads_alone.ensures.acts;
       shapes = c.each_domain_is_as_its_program.ensures.shapes;
@@ -20,4 +24,4 @@ returns c =
       stay = c.members_find_what_their_links_keep.ensures.words;
       read = c.subtrees_are_seen_on_paths.ensures.entries;
     } in
-    resuming_stands c.laws_below.ensures laws
+    resuming_stands c.laws_below.ensures laws c.resuming_fits.ensures
