@@ -174,18 +174,20 @@ fits_at l plan s domain children (Waiting spare point) is_plan listed f st waits
     let k : KeepsSo s.pass (joined_all children s.pass) (rooms children) = all_joined children s.pass in
     let m : StaysSo s.field (absorbed_all (commits children) children s.field) = all_stays (commits children) children s.field in
     let S : List Fault → Type 0 = λ script. IsAccepted plan.tree script in
-    let L : Known → Type 0 = λ known. LinksAreKept plan known d s.above in
-    (r.can, record {
-      domain = domain;
-      body = body_in plan.tree domain;
-      is = l.follows plan.tree is_plan.program s.node domain listed;
-      counts = length-counts_taken (commits children) children s r.can ∙ f.counts;
-      script = subst S (sym m.script) f.script;
-      words = λ p reach. all_words (commits children) children s p r.can (f.view.words p reach);
-      most = omega (arith, k.most, f.most);
-      links = subst L (sym k.known) f.view.links;
-      stage = stage_fits plan s d domain members children spare point r st (first_escalation children) refl;
-    })
+    let L : Known → Type 0 = λ known. LinksAreKept plan known d s.above in (
+      r.can,
+      record {
+        domain = domain;
+        body = body_in plan.tree domain;
+        is = l.follows plan.tree is_plan.program s.node domain listed;
+        counts = length-counts_taken (commits children) children s r.can ∙ f.counts;
+        script = subst S (sym m.script) f.script;
+        words = λ p reach. all_words (commits children) children s p r.can (f.view.words p reach);
+        most = omega (arith, k.most, f.most);
+        links = subst L (sym k.known) f.view.links;
+        stage = stage_fits plan s d domain members children spare point r st (first_escalation children) refl;
+      },
+    )
 fits_at l plan s domain children (Resumed spare point) is_plan listed f st waits named takes = absurd waits
 fits_at l plan s domain children (Lost spare cause over) is_plan listed f st waits named takes = absurd waits
 fits_at l plan s domain children (Ended ending) is_plan listed f st waits named takes = absurd waits

@@ -170,11 +170,12 @@ can_take_all plan commit (member first rest) (child ∷ children) s from back ap
       counts = omega (arith, at, low, within, both, b.counts);
     } in
     let long : length (put_at s.counts (child.node.0 - s.node.0) child.counts) ≡ length s.counts =
-    length-put_at s.counts (child.node.0 - s.node.0) child.counts next.counts in
-    (next,
-    can_take_all plan commit rest children (took commit s child) (from + node_size first)
-    (all_still plan commit s child first rest children apart.0 b back.1) apart.1 follow.1
-    (omega (arith, low)) (omega (arith, within, both, long)) (omega (arith, few)))
+    length-put_at s.counts (child.node.0 - s.node.0) child.counts next.counts in (
+      next,
+      can_take_all plan commit rest children (took commit s child) (from + node_size first)
+          (all_still plan commit s child first rest children apart.0 b back.1) apart.1 follow.1
+          (omega (arith, low)) (omega (arith, within, both, long)) (omega (arith, few)),
+    )
 
 -- the room of all is what they need
 pub rooms_are : (plan : PlanModel) (s : StateModel) (commit : Bool) (members : Members) (children : List StateModel)
@@ -186,6 +187,6 @@ rooms_are plan s commit (member first rest) (child ∷ children) back =
     let here : child.pass.room ≡ need_of plan.tree.domains child.node = back.0.room in
     let more : rooms children ≡ sum_by (need_of plan.tree.domains) (nodes_of children) = rooms_are plan s commit rest children back.1 in
     let sum : sum_by (need_of plan.tree.domains) (child.node ∷ nodes_of children)
-        ≡ need_of plan.tree.domains child.node + sum_by (need_of plan.tree.domains) (nodes_of children) =
+    ≡ need_of plan.tree.domains child.node + sum_by (need_of plan.tree.domains) (nodes_of children) =
     sum_by-cons (need_of plan.tree.domains) child.node (nodes_of children) in
     omega (arith, here, more, sum)

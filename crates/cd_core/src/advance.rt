@@ -1,13 +1,13 @@
 // A domain goes on: its tries are made up to the next group, whose members are sent, or to its end.
-ghost use Rattle.std.specs.Prelude.{◌≡◌, ◌<◌, length, map, IfOk, OnOk};
-ghost use Rattle.cd_core.specs.Advancing.{all_sent, members_at};
+ghost use Rattle.std.specs.Prelude.{◌≡◌, Some, slice_get, IfOk, IsSomeAnd};
+ghost use Rattle.cd_tree.specs.Domains.{node_of};
 ghost use Rattle.cd_core.specs.Fits.{Fits};
-ghost use Rattle.cd_core.specs.StateLaws.{waiting_for};
+ghost use Rattle.cd_core.specs.StateLaws.{Concludes};
 ghost use Rattle.cd_core.specs.StateModel.{state_model};
 ghost use Rattle.cd_core.specs.Stands.{Stands};
-ghost use Rattle.cd_core.specs.Steps.{CanMove, step_model, sends, Advances, AdvancesBy, FitsBehind, StandsBehind};
+ghost use Rattle.cd_core.specs.Steps.{CanMove, step_model, Advances, AdvancesBy, FitsBehind, StandsBehind};
 ghost use Rattle.cd_core.specs.Tasks.{Task};
-ghost use Rattle.cd_core.specs.Trying.{AreBelow, CanSendAll};
+ghost use Rattle.cd_core.specs.Trying.{FitsTried};
 
 use crate::advancing_laws::{advancing_fits, advancing_stands};
 use crate::sending::members_at;

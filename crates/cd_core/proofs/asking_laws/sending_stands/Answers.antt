@@ -12,3 +12,4 @@ returns c =
       slices = c.subtrees_are_slices.ensures.slices;
       group = c.a_body_follows_its_items.ensures.group;
     })
+    c.sending_fits.ensures
