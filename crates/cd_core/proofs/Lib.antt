@@ -28,3 +28,5 @@ mod GroupsGiven
 mod TakenBack
 mod AfterTaking
 mod FitsTaken
+mod TakenOn
+mod TakesBack

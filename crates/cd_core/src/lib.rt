@@ -11,6 +11,7 @@ mod resume;
 mod sending;
 mod start;
 mod state;
+mod taking;
 pub mod taking_laws;
 mod tries;
 mod verdict;
