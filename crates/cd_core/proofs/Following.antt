@@ -23,7 +23,7 @@ use Rattle.cd_tree.specs.Fronts.{Front, Stand, arrives, arrival, past_item, next
 use Rattle.cd_tree.specs.FrontLaws.{NextPointIsThere, FrontsStand}
 use Rattle.cd_tree.specs.Legal.{Legal, nothing, same}
 use Rattle.cd_tree.specs.LegalLaws.{LegalPieces}
-use Rattle.cd_tree.specs.Locality.{SameWords, OperationKeepsAgreement}
+use Rattle.cd_tree.specs.Locality.{SameWords, OperationsActLocally}
 use Rattle.cd_tree.specs.Meaning.{in_entries}
 use Rattle.cd_tree.specs.Operations.{op_meaning, op_reads, op_writes}
 use Rattle.cd_tree.specs.Reading.{Case, Counts, Past, joined, Told, told, after, Try}
@@ -103,7 +103,7 @@ module _ (tree : TreeModel) (loaded : Words) (halts : ℕ) (domain : Domain) (bo
   }
 
   -- behind an operation it comes before the next point
-  pub stepping : NextPointIsThere → RunComesNext → OneItemLess → OperationKeepsAgreement
+  pub stepping : NextPointIsThere → RunComesNext → OneItemLess → OperationsActLocally
       → (m : FieldModel) (attempt point : ℕ) (past : Past) (spare kinds : ℕ) (op : Op) (rest : Body) (now : Counts)
       → ItemStays domain.entries (Run op) → (bit_and kinds halts == no_kinds) ≡ true
       → At m attempt point past spare kinds (run op rest) now
@@ -116,7 +116,7 @@ module _ (tree : TreeModel) (loaded : Words) (halts : ℕ) (domain : Domain) (bo
     behind = less point body ∙ ap (λ (b : Body). body_behind 1 b) a.behind;
     others = a.others;
     words = λ none p q h.
-        keeps op (in_entries domain.entries) m.words (meaning_of_first point body begun) stays.1
+        keeps.agreement op (in_entries domain.entries) m.words (meaning_of_first point body begun) stays.1
         (λ r i. stays.2 r (or_right (in_range (op_writes op) r) (in_ranges (op_reads op) r) i)) (a.words none p) q
         (or_left (in_entries domain.entries q) (in_range (op_writes op) q) h)
         ∙ ap (λ (w : Words). w q) (comes point body op rest begun a.behind);
@@ -144,7 +144,7 @@ module _ (tree : TreeModel) (loaded : Words) (halts : ℕ) (domain : Domain) (bo
   came_where attempt spare false m next goes halts = halts refl
 
   -- a try that stands before a point comes to a front of the reading, and stops there for its reason
-  pub running : LegalPieces → NextPointIsThere → FrontsStand → RunComesNext → OneItemLess → OperationKeepsAgreement
+  pub running : LegalPieces → NextPointIsThere → FrontsStand → RunComesNext → OneItemLess → OperationsActLocally
       → (find : NodeId → Option Node) (m : FieldModel) (attempt point : ℕ) (past : Past) (spare : ℕ) (items : List Item) (now : Counts)
       → StrikesWithin m.node domain.entries m.script → All (ItemStays domain.entries) items
       → Before m attempt point past spare (body_by find items) now

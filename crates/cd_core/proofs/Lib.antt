@@ -30,3 +30,16 @@ mod AfterTaking
 mod FitsTaken
 mod TakenOn
 mod TakesBack
+mod AskedWords
+mod AskedCounts
+mod AskedLinks
+mod Viewed
+mod AskedMembers
+mod Asking
+mod RootStands
+mod Sent
+mod Returning
+mod Counting
+mod Pairing
+mod MemberLinks
+mod AfterGroups

@@ -12,7 +12,7 @@ use Rattle.cd_tree.specs.Domains.{Node, Body, node, body_by, body_numbers}
 use Rattle.cd_tree.specs.FirstItems.{RunComesNext, OneItemLess, FirstThenRest}
 use Rattle.cd_tree.specs.FrontLaws.{NextPointIsThere, NextTryIsThere, FrontsStand, FrontCountsLieBetween}
 use Rattle.cd_tree.specs.LegalLaws.{LegalPieces}
-use Rattle.cd_tree.specs.Locality.{SameWords, OperationKeepsAgreement}
+use Rattle.cd_tree.specs.Locality.{SameWords}
 use Rattle.cd_tree.specs.Meaning.{in_entries}
 use Rattle.cd_tree.specs.declared.event.Event.TheVariants.{Begin}
 use Rattle.cd_tree.specs.Reading.{Counts, Past, joined, only_events, Told, TryEnd, Blame, blame, refilled_from, counted, read_node}

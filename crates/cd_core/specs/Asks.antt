@@ -1,5 +1,5 @@
 -- Asks: what a domain is sent with, as plain data, and what the ask of a member is, read from the state that waits for it.
-use Rattle.std.specs.Prelude.{◌≡◌, ℕ, ◌-◌, Bool, ◌&&◌, ◌==◌, if◌then◌else◌, List, [], ◌∷◌, ◌++◌, Option, None, Some, drop, take, length, map, slice_get, slice_index, IsSomeAnd, unwrap_or}
+use Rattle.std.specs.Prelude.{◌≡◌, ℕ, ◌-◌, Bool, ◌&&◌, ◌==◌, if◌then◌else◌, List, [], ◌∷◌, Option, None, Some, drop, take, length, map, slice_get, slice_index, IsSomeAnd, unwrap_or}
 use Rattle.std.specs.Option.{option_map_or}
 use Rattle.std.specs.List.{flat_map}
 use Rattle.cd_base.specs.declared.place.Range.{Range}
@@ -91,9 +91,9 @@ pub record Answers (plan : PlanModel) (faults : List Fault) (loaded : Words) (as
 
 -- ---- the ask of a member
 
--- what is kept for those below: by the domains above, then by this one
+-- what is kept for those below: by this domain, then by the domains above
 abbrev pub levels_below : StateModel → List Level
-levels_below s = s.above ++ record { node = s.node; keeps = s.keeps } ∷ []
+levels_below s = record { node = s.node; keeps = s.keeps } ∷ s.above
 
 -- a part of a list in preorder: that of the domain `id` and of those below it, of a list that begins with domain `first`
 abbrev pub counts_of : NodeId → List ℕ → NodeId → ℕ → List ℕ

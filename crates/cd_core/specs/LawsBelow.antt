@@ -2,7 +2,7 @@
 use Rattle.cd_tree.specs.FirstItems.{FirstThenRest, ItemsBehind, OneItemLess, RunComesNext}
 use Rattle.cd_tree.specs.FrontLaws.{FirstPointIsThere, FrontCountsLieBetween, FrontsLead, FrontsStand, NextPointIsThere, NextTryIsThere, PassesGroups}
 use Rattle.cd_tree.specs.LegalLaws.{LegalPieces}
-use Rattle.cd_tree.specs.Locality.{CoveredInPrograms, OperationKeepsAgreement}
+use Rattle.cd_tree.specs.Locality.{CoveredInPrograms, OperationsActLocally}
 use Rattle.cd_tries.specs.TryLaws.{PointsKeep, PuttingBack, TriesKeep, TryingAgainKeeps}
 use Rattle.cd_tree.specs.CountLaws.{NumbersAreDistinct}
 use Rattle.cd_tree.specs.Laws.{DetectableByPaths, NestedViewFollows, ReachIsEntries}
@@ -20,7 +20,7 @@ pub record Laws : Type 0 where
   pub comes : RunComesNext
   pub less : OneItemLess
   pub firsts : FirstThenRest
-  pub keeps : OperationKeepsAgreement
+  pub keeps : OperationsActLocally
   pub back : PuttingBack
   pub stays : TryingAgainKeeps
 

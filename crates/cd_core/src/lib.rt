@@ -4,10 +4,12 @@
 
 mod advance;
 pub mod advancing_laws;
+pub mod asking_laws;
 mod ending;
 mod laws_below;
 mod path;
 mod resume;
+pub mod returning_laws;
 mod sending;
 mod start;
 mod state;

@@ -82,21 +82,21 @@ impl<F: Field, P: Pass> NodeState<F, P> {
         Ok(counts)
     }
 
-    // What is kept for the members: by the domains above, then by this one.
+    // What is kept for the members: by this domain, then by the domains above.
     fn levels_for_members(&self, alloc: Global) -> Result<Vec<Level>, NoMemory>
         ensures { IfOk result (λ levels. levels.items ≡ levels_below (state_model F.model P.model self.now)) }
     {
         let mut levels = Vec::new(alloc);
+        levels.push(Level {
+            node: self.node,
+            keeps: self.keeps.share()?,
+        })?;
         for level in &self.above {
             levels.push(Level {
                 node: level.node,
                 keeps: level.keeps.share()?,
             })?;
         }
-        levels.push(Level {
-            node: self.node,
-            keeps: self.keeps.share()?,
-        })?;
         Ok(levels)
     }
 }

@@ -48,7 +48,7 @@ pub struct NodeState<F, P> {
     pub stage: Stage,
     /// What it keeps of its entries, in order; nothing before it has begun and when it has ended.
     pub keeps: Shelf,
-    /// What the domains above keep of theirs, the root's first.
+    /// What the domains above keep of theirs, the parent's first.
     pub above: Vec<Level>,
     pub field: F,
     pub pass: P,
