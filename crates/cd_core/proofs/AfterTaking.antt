@@ -1,15 +1,11 @@
 -- What members that are taken back leave: the machine, the pass and the counts of the state.
-use Rattle.std.proofs.Common.{◌≡◌, ℕ, zero, suc, ◌+◌, ◌-◌, ◌≤◌, Bool, true, false, ◌||◌, if◌then◌else◌, bit_or, List, [], ◌∷◌, ◌++◌, Option, None, Some, length, IsSome, refl, ap, sym, subst, ◌∙◌, arith, inl, inr}
+use Rattle.std.proofs.Common.{◌≡◌, ℕ, ◌+◌, ◌-◌, Bool, true, false, if◌then◌else◌, bit_or, List, [], ◌∷◌, ◌++◌, Option, None, Some, length, IsSome, refl, ap, sym, subst, ◌∙◌, arith, inl, inr}
 use Rattle.std.proofs.lemmas.Bool.{or_cases}
 use Rattle.cd_base.specs.declared.place.Place.{Place}
-use Rattle.cd_base.specs.declared.place.Range.{Range}
-use Rattle.cd_base.specs.Words.{Words, in_ranges}
-use Rattle.cd_base.proofs.BoolLemmas.{by_test}
-use Rattle.cd_tree.specs.declared.domain.NodeId.{NodeId}
+use Rattle.cd_base.specs.Words.{in_ranges}
 use Rattle.cd_tree.specs.declared.domain.Domain.{Domain}
-use Rattle.cd_tree.specs.declared.document.Fault.{Fault}
 use Rattle.cd_tree.specs.declared.event.Cause.{Cause}
-use Rattle.cd_tree.specs.Domains.{Node, Members, no_more, member, node_numbers, member_numbers}
+use Rattle.cd_tree.specs.Domains.{Members, no_more, member, node_numbers, member_numbers}
 use Rattle.cd_tree.specs.Meaning.{node_writes, member_writes}
 use Rattle.cd_tree.specs.Slices.{among}
 use Rattle.cd_tree.proofs.OtherCounts.{among_left, among_right}
@@ -20,7 +16,7 @@ use Rattle.cd_core.specs.declared.state.Stage.{Stage}
 use Rattle.cd_core.specs.declared.state.Stage.TheVariants.{Ready, Waiting, Resumed, Lost, Ended}
 use Rattle.cd_core.specs.StateModel.{StateModel}
 use Rattle.cd_core.specs.Fits.{IsOneOf}
-use Rattle.cd_core.specs.Resuming.{absorbed_all, all_done, counts_taken, escalation, first_escalation, joined_all, put_at, resumed, resumed_at, stage_behind, with_more}
+use Rattle.cd_core.specs.Resuming.{absorbed_all, all_done, counts_taken, escalation, first_escalation, joined_all, resumed, resumed_at, stage_behind, with_more}
 use Rattle.cd_core.specs.Steps.{IsWaiting}
 use Rattle.cd_core.specs.TakingBack.{CanTakeAll, stage_after, took, took_all}
 use Rattle.cd_core.proofs.TakenBack.{Pairs, ComesBack, rooms, length-put_at, same_cause}

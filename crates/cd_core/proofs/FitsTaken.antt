@@ -1,5 +1,5 @@
 -- A domain that waited fits after its members were taken back: it goes on with all present, or its try is over.
-use Rattle.std.proofs.Common.{◌≡◌, ℕ, suc, ◌+◌, ◌≤◌, ◌<◌, Bool, true, false, List, [], Option, None, Some, length, sum_by, slice_get, IsSome, refl, ap, sym, subst, ◌∙◌, arith}
+use Rattle.std.proofs.Common.{◌≡◌, ℕ, suc, ◌+◌, ◌≤◌, Bool, true, false, List, [], Option, None, Some, length, sum_by, slice_get, refl, ap, sym, subst, ◌∙◌, arith}
 use Rattle.std.specs.Option.{option_map_or}
 use Rattle.std.proofs.lemmas.Option.{slice_get_within}
 use Rattle.cd_base.specs.declared.place.Place.{Place}
@@ -10,17 +10,16 @@ use Rattle.cd_tree.specs.declared.domain.Item.TheVariants.{Group}
 use Rattle.cd_tree.specs.declared.domain.Domain.{Domain}
 use Rattle.cd_tree.specs.declared.document.Fault.{Fault}
 use Rattle.cd_tree.specs.declared.event.Cause.{Cause}
-use Rattle.cd_tree.specs.Domains.{Node, Body, Members, node, node_of, body_of, members_by, node_numbers, body_numbers, member_numbers}
+use Rattle.cd_tree.specs.Domains.{Node, Members, node, node_of, body_of, members_by, node_numbers, body_numbers, member_numbers}
 use Rattle.cd_tree.specs.Laws.{NestedViewFollows}
 use Rattle.cd_tree.specs.Meaning.{node_reach, node_need, member_writes}
 use Rattle.cd_tree.specs.Scripts.{IsAccepted}
 use Rattle.cd_tree.specs.Slices.{among}
-use Rattle.cd_field.specs.FieldModel.{FieldModel, IsPresent}
+use Rattle.cd_field.specs.FieldModel.{IsPresent}
 use Rattle.cd_keep.specs.declared.keep_id.KeepId.{KeepId}
-use Rattle.cd_keep.specs.PassModel.{PassModel}
 use Rattle.cd_cover.specs.PlanLaws.{need_of}
 use Rattle.cd_cover.specs.Plans.{PlanModel, IsPlan}
-use Rattle.cd_tries.specs.Keeping.{Known, KeepsFit, HoldsThese, all_ids}
+use Rattle.cd_tries.specs.Keeping.{Known, KeepsFit}
 use Rattle.cd_core.specs.declared.state.Stage.{Stage}
 use Rattle.cd_core.specs.declared.state.Stage.TheVariants.{Ready, Waiting, Resumed, Lost, Ended}
 use Rattle.cd_core.specs.StateModel.{StateModel}

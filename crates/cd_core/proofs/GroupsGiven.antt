@@ -1,11 +1,11 @@
 -- What a domain of a plan gives the members of one of its groups: they are apart, their slices follow each other inside its own,
 -- and their numbers are among those of its body.
-use Rattle.std.proofs.Common.{◌≡◌, ℕ, zero, suc, ◌+◌, ◌≤◌, true, List, ◌++◌, Option, Some, length, slice_get, refl, ap, sym, subst, ◌∙◌, arith}
+use Rattle.std.proofs.Common.{◌≡◌, ℕ, zero, suc, ◌+◌, ◌≤◌, true, List, Some, length, slice_get, subst, arith}
 use Rattle.std.proofs.lemmas.List.{length-append}
 use Rattle.cd_tree.specs.declared.domain.NodeId.{NodeId}
 use Rattle.cd_tree.specs.declared.domain.Item.TheVariants.{Group}
 use Rattle.cd_tree.specs.declared.domain.Domain.{Domain}
-use Rattle.cd_tree.specs.Domains.{Node, Body, Members, node, stop, run, group, body_behind, members_by, node_of, body_numbers, member_numbers, node_numbers}
+use Rattle.cd_tree.specs.Domains.{Body, Members, stop, run, group, body_behind, members_by, node_of, body_numbers, member_numbers}
 use Rattle.cd_tree.specs.FirstItems.{BehindIsGroup}
 use Rattle.cd_tree.specs.Laws.{NestedViewFollows}
 use Rattle.cd_tree.specs.Locality.{DisjointInPrograms}

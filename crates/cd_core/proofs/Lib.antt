@@ -24,6 +24,12 @@ mod Commons
 mod EndsStand
 mod Making
 mod Advanced
+mod GroupsGiven
+mod TakenBack
+mod AfterTaking
+mod FitsTaken
+mod TakenOn
+mod TakesBack
 mod AskedWords
 mod AskedCounts
 mod AskedLinks

@@ -1,6 +1,6 @@
 -- Members that come back: each can be taken when its turn comes, since members are apart and have no more room than they were sent.
-use Rattle.std.proofs.Common.{◌≡◌, ℕ, zero, suc, ◌+◌, ◌-◌, ◌≤◌, Bool, true, false, ◌&&◌, ◌||◌, if◌then◌else◌, List, [], ◌∷◌, ◌++◌, Option, None, Some, length, take, drop, sum_by, slice_get, IsSome, refl, ap, sym, subst, ◌∙◌, arith, inl, inr}
-use Rattle.std.proofs.lemmas.Bool.{and_parts, and_from, or_parts, or_right, false_from_ne_true}
+use Rattle.std.proofs.Common.{◌≡◌, ℕ, ◌+◌, ◌-◌, ◌≤◌, Bool, true, false, ◌&&◌, if◌then◌else◌, List, [], ◌∷◌, ◌++◌, Option, None, Some, length, take, drop, sum_by, refl, ap, sym, subst, ◌∙◌, arith}
+use Rattle.std.proofs.lemmas.Bool.{and_from, or_parts, or_right, false_from_ne_true}
 use Rattle.std.proofs.lemmas.List.{length-append, length-take-le, length-drop}
 use Rattle.std.proofs.lemmas.List.Sums.{sum_by-cons}
 use Rattle.cd_base.specs.declared.place.Place.{Place}
@@ -11,16 +11,16 @@ use Rattle.cd_tree.specs.Domains.{Node, Members, node, no_more, member, members_
 use Rattle.cd_tree.specs.Meaning.{node_reads, node_reach, node_writes, node_need, DoNotClash, IsApartFrom, MembersApart}
 use Rattle.cd_tree.specs.Slices.{node_size, members_size, MembersFollow}
 use Rattle.cd_tree.proofs.View.{members_by-found}
-use Rattle.cd_field.specs.FieldModel.{FieldModel, absorbed, ArePresent, CanAbsorb}
-use Rattle.cd_keep.specs.PassModel.{PassModel, HoldsNothing, joined, CanJoin}
+use Rattle.cd_field.specs.FieldModel.{FieldModel, absorbed, CanAbsorb}
+use Rattle.cd_keep.specs.PassModel.{HoldsNothing}
 use Rattle.cd_cover.specs.PlanLaws.{need_of}
 use Rattle.cd_cover.specs.Plans.{PlanModel}
 use Rattle.cd_core.specs.declared.state.Ending.{Ending}
 use Rattle.cd_core.specs.declared.state.Ending.TheVariants.{Done, Escalated}
 use Rattle.cd_core.specs.declared.state.Stage.{Stage}
-use Rattle.cd_core.specs.declared.state.Stage.TheVariants.{Ready, Waiting, Resumed, Lost, Ended}
+use Rattle.cd_core.specs.declared.state.Stage.TheVariants.{Ended}
 use Rattle.cd_core.specs.StateModel.{StateModel}
-use Rattle.cd_core.specs.Fits.{Fits, FitsStage, FitsEnded, BlamesOwn, IsOneOf}
+use Rattle.cd_core.specs.Fits.{FitsStage, FitsEnded, BlamesOwn, IsOneOf}
 use Rattle.cd_core.specs.Resuming.{CanTake, CanTakeEach, escalation, nodes_of, put_at}
 use Rattle.cd_core.specs.TakingBack.{CanTakeAll, CanTakeNext, took}
 

@@ -1,5 +1,5 @@
 -- How members are taken back: one after another, each when its turn comes.
-use Rattle.std.specs.Prelude.{◌≡◌, ℕ, ◌+◌, ◌-◌, ◌≤◌, Bool, List, [], ◌∷◌, Option, length}
+use Rattle.std.specs.Prelude.{ℕ, ◌+◌, ◌-◌, ◌≤◌, Bool, List, [], ◌∷◌, Option, length}
 use Rattle.cd_tree.specs.declared.event.Cause.{Cause}
 use Rattle.cd_field.specs.FieldModel.{absorbed, CanAbsorb}
 use Rattle.cd_keep.specs.PassModel.{joined, CanJoin}

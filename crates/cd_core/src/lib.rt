@@ -14,6 +14,7 @@ mod sending;
 pub mod sending_laws;
 mod start;
 mod state;
+mod taking;
 pub mod taking_laws;
 mod tries;
 pub mod trying_laws;

@@ -1,3 +1,4 @@
+// Members that come back: the domain that waited for them goes on, or its try is over.
 ghost use Rattle.std.specs.Prelude.{◌≡◌, ◌++◌, Some, OnOk, map, slice_get, IsSomeAnd};
 ghost use Rattle.cd_core.specs.Asks.{EachAnswers};
 ghost use Rattle.cd_core.specs.Advancing.{members_at};
@@ -8,7 +9,8 @@ ghost use Rattle.cd_core.specs.StateModel.{state_model};
 ghost use Rattle.cd_core.specs.Steps.{IsWaiting, waits_at};
 ghost use Rattle.cd_core.specs.Tasks.{Task};
 
-use crate::NodeState;
+use crate::taking::none_escalated;
+use crate::{NodeState, taking_laws};
 use cd_base::NoMemory;
 use cd_cover::Plan;
 use cd_field::Field;
@@ -26,6 +28,12 @@ impl<F: Field, P: Pass> NodeState<F, P> {
         ensures fits { OnOk result (Fits plan.now (state_model F.model P.model self.new)) }
         ensures stands { OnOk result ((t : Task) → Stands plan.now t (state_model F.model P.model self.old) → EachAnswers plan.now t.faults t.loaded (state_model F.model P.model self.old) (map (state_model F.model P.model) children.items) → Stands plan.now t (state_model F.model P.model self.new)) }
     {
-        Err(NoMemory)
+        taking_laws::members_can_be_taken();
+        taking_laws::resuming_fits();
+        let detects = plan.tree().node(self.node).detects;
+        let commit = none_escalated(children.as_slice());
+        let lost = self.take_all(children, commit)?;
+        self.settle(detects, lost);
+        Ok(())
     }
 }
