@@ -1,8 +1,6 @@
 -- The tries that are due at a stage, joined with what the domain's count becomes.
-use Rattle.std.proofs.Common.{◌≡◌, ◌×◌, ℕ, List, ap, sym, subst, ◌∙◌, slice_set, zero, suc, false, true, Bool, ◌==◌}
+use Rattle.std.proofs.Common.{◌≡◌, List, refl, ap, sym, subst, ◌∙◌, slice_set}
 use Rattle.cd_tree.specs.declared.domain.Domain.{Domain}
-use Rattle.cd_tree.specs.declared.event.Cause.{Cause}
-use Rattle.cd_tree.specs.KindSets.{no_kinds}
 use Rattle.cd_field.specs.FieldModel.{FieldModel}
 use Rattle.cd_keep.specs.PassModel.{PassModel}
 use Rattle.cd_cover.specs.Plans.{PlanModel}

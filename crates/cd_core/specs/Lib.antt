@@ -9,3 +9,4 @@ pub mod Steps
 pub mod Trying
 pub mod StateLaws
 pub mod LawsBelow
+pub mod TakingBack

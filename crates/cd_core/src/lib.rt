@@ -4,15 +4,19 @@
 
 mod advance;
 pub mod advancing_laws;
+pub mod asking_laws;
 mod ending;
 mod laws_below;
 mod path;
 mod resume;
+pub mod returning_laws;
 mod sending;
 pub mod sending_laws;
 mod start;
 mod state;
+pub mod taking_laws;
 mod tries;
+pub mod trying_laws;
 mod verdict;
 
 pub use start::start_root;

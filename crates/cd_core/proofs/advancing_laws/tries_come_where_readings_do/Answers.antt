@@ -1,4 +1,3 @@
-use Rattle.cd_core.proofs.Advanced.{advancing_fits, advancing_stands}
 use Rattle.cd_core.proofs.Arriving.{tries_end}
 use Rattle.cd_core.proofs.Standing.{tries_come}
 use Rattle.cd_core.proofs.advancing_laws.tries_come_where_readings_do.Goals as goal
