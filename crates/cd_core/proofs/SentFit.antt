@@ -40,6 +40,7 @@ use Rattle.cd_core.proofs.Members.{MemberOf, all_of, are_below, are_members, apa
 use Rattle.cd_core.proofs.Apartness.{IsHereAt, named_members, can_send_all, field_stays, pass_stays, room_left, stay_there, stays_here}
 use Rattle.cd_core.proofs.KeptRoom.{kept_within}
 use Rattle.cd_core.proofs.LinksBelow.{OuterLaws, member_links}
+use Rattle.cd_core.proofs.Viewed.{view_is}
 
 -- ---- a member as it is sent
 
@@ -237,9 +238,7 @@ tried_view : NestedViewFollows → (plan : PlanModel) (s : StateModel) (d : Node
     → slice_get plan.tree.domains s.node.0 ≡ Some domain → FitsTried plan d domain s (Waits spare point)
     → FitsTried plan (view_in plan.tree s.node domain) domain s (Waits spare point)
 tried_view follows plan s d domain spare point is_plan listed f =
-    let is : node_of plan.tree.domains s.node ≡ Some (view_in plan.tree s.node domain) = follows plan.tree is_plan.program s.node domain listed in
-    let both : ◌≡◌ {A = Option Node} (Some d) (Some (view_in plan.tree s.node domain)) = sym f.is ∙ is in
-    let same : d ≡ view_in plan.tree s.node domain = cc in
+    let same : d ≡ view_in plan.tree s.node domain = view_is follows plan s.node domain d is_plan listed f.is in
     subst (λ (x : Node). FitsTried plan x domain s (Waits spare point)) same f
 
 pub groups_can_be_sent : GroupLaws → GroupsCanBeSent
