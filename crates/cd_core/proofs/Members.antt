@@ -1,8 +1,8 @@
 -- The members of a group of a plan's domain: each is a child, reaches places of the domain's entries alone, and has its slice within
 -- the domain's.
-use Rattle.std.proofs.Common.{◌≡◌, ℕ, zero, suc, ◌+◌, ◌<◌, ◌≤◌, List, [], ◌∷◌, ◌++◌, Option, Some, All, length, get_or, slice_get, unwrap_or, refl, ap, subst, sym, arith}
+use Rattle.std.proofs.Common.{◌≡◌, ℕ, zero, suc, ◌+◌, ◌<◌, ◌≤◌, List, [], ◌∷◌, ◌++◌, Option, Some, All, length, slice_get, refl, ap, subst, sym, arith}
 use Rattle.std.proofs.lemmas.List.Elements.{All-nil, All-cons}
-use Rattle.std.proofs.lemmas.Option.{slice_get-get_or, slice_get_within}
+use Rattle.std.proofs.lemmas.Option.{slice_get_within}
 use Rattle.std.specs.Option.{option_map_or}
 use Rattle.cd_base.proofs.ListLemmas.{Each, some_of}
 use Rattle.cd_base.specs.Words.{PlaceSet}
@@ -17,7 +17,6 @@ use Rattle.cd_tree.specs.Laws.{NestedViewFollows}
 use Rattle.cd_tree.specs.Meaning.{in_entries, node_reach, IsCovered, CoversBody, CoversMembers, GroupsApart, MembersApart, LieIn}
 use Rattle.cd_tree.specs.Slices.{node_size, slice_end, children_in, FillSlice}
 use Rattle.cd_tree.specs.TreeModel.{FitsItems, NamesChildren}
-use Rattle.cd_foot.specs.declared.footprints.Foot.{Foot}
 use Rattle.cd_foot.specs.Feet.{IsFoot}
 use Rattle.cd_cover.specs.OuterLaws.{IsChild}
 use Rattle.cd_cover.specs.Plans.{PlanModel, IsPlan}
@@ -26,6 +25,7 @@ use Rattle.cd_core.specs.Asks.{foot_of}
 use Rattle.cd_core.specs.StateModel.{StateModel}
 use Rattle.cd_core.specs.Trying.{IsBelow}
 use Rattle.cd_core.proofs.Grounds.{view_in}
+use Rattle.cd_core.proofs.Viewed.{foot_is}
 
 -- ---- a property of each, and of the items of a domain
 
@@ -84,15 +84,6 @@ pub record MemberOf (plan : PlanModel) (parent : NodeId) (entries : List Entry) 
   pub foot : IsFoot (view_in plan.tree id own) (foot_of plan id)
   pub within : LieIn (node_reach (view_in plan.tree id own)) (in_entries entries)
 
-pub foot_is : (plan : PlanModel) (id : NodeId) (d : Node) → IsPlan plan → node_of plan.tree.domains id ≡ Some d
-    → id.0 < length plan.tree.domains → IsFoot d (foot_of plan id)
-foot_is plan id d is_plan is below =
-    let nothing : Foot = record { reads = []; writes = []; reach = [] } in
-    let there : slice_get plan.feet id.0 ≡ Some (get_or plan.feet id.0 nothing) =
-    slice_get-get_or plan.feet id.0 nothing (omega (arith, below, is_plan.footprints.size)) in
-    let P : Option Foot → Type 0 = λ o. IsFoot d (unwrap_or o nothing) in
-    subst P (sym there) (is_plan.footprints.each id d (get_or plan.feet id.0 nothing) is there)
-
 pub are_members : NestedViewFollows → (plan : PlanModel) (parent : NodeId) (entries : List Entry) (ids : List NodeId) → IsPlan plan
     → NamesChildren plan.tree.domains parent.0 ids → CoversMembers (in_entries entries) (members_by (node_of plan.tree.domains) ids)
     → Each (MemberOf plan parent entries) ids
@@ -111,7 +102,7 @@ are_members follows plan parent entries (id ∷ ids) is_plan named covers =
         child = named.1;
         later = named.0;
         is = is;
-        foot = foot_is plan id view is_plan is (slice_get_within plan.tree.domains id.0 found.0 found.1);
+        foot = foot_is plan id view is_plan is;
         within = parts.0;
       },
       are_members follows plan parent entries ids is_plan named.2 parts.2,

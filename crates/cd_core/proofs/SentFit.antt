@@ -21,7 +21,6 @@ use Rattle.cd_tree.proofs.View.{domain_fits}
 use Rattle.cd_field.specs.FieldModel.{FieldModel, IsPresent, part_of, without}
 use Rattle.cd_keep.specs.PassModel.{PassModel}
 use Rattle.cd_keep.specs.PassModel as passes
-use Rattle.cd_cover.specs.OuterLaws.{OuterAreReferences, OuterOfMembers}
 use Rattle.cd_cover.specs.PlanLaws.{need_of, GroupsNeedWithin}
 use Rattle.cd_cover.specs.Plans.{PlanModel, IsPlan}
 use Rattle.cd_tries.specs.declared.shelf.Level.{Level}
@@ -41,6 +40,7 @@ use Rattle.cd_core.proofs.Members.{MemberOf, all_of, are_below, are_members, apa
 use Rattle.cd_core.proofs.Apartness.{IsHereAt, named_members, can_send_all, field_stays, pass_stays, room_left, stay_there, stays_here}
 use Rattle.cd_core.proofs.KeptRoom.{kept_within}
 use Rattle.cd_core.proofs.LinksBelow.{OuterLaws, member_links}
+use Rattle.cd_core.proofs.Viewed.{view_is}
 
 -- ---- a member as it is sent
 
@@ -107,13 +107,11 @@ all_fit plan s entries (id ∷ ids) m p members below apart here can most accept
 
 -- ---- what holds of a group
 
-pub record SendingLaws : Type 0 where
+pub record GroupLaws : Type 0 where
   pub more : MoreLaws
   pub disjoint : DisjointInPrograms
   pub fill : ChildrenFillSlices
   pub needs : GroupsNeedWithin
-  pub references : OuterAreReferences
-  pub members : OuterOfMembers
 
 -- the members of the group at which a domain waits
 record GroupSent (plan : PlanModel) (s : StateModel) (domain : Domain) (ids : List NodeId) : Type 0 where
@@ -122,7 +120,6 @@ record GroupSent (plan : PlanModel) (s : StateModel) (domain : Domain) (ids : Li
   apart : MembersApart (named_members plan ids)
   here : Each (IsHereAt plan s.field) ids
   room : sum_by (need_of plan.tree.domains) ids ≤ s.pass.room
-  links : Each (LinksAt plan s.pass.known (levels_below s)) ids
 
 -- members reach places of the domain's entries
 members_there : (plan : PlanModel) (parent : NodeId) (entries : List Entry) (m : FieldModel) (ids : List NodeId)
@@ -147,7 +144,7 @@ members_linked l plan s domain (id ∷ ids) is_plan listed is fits kept members 
   members_linked l plan s domain ids is_plan listed is fits kept members.1,
 )
 
-module _ (l : SendingLaws) (plan : PlanModel) (s : StateModel) (domain : Domain) (spare point : ℕ) (is_plan : IsPlan plan)
+module _ (l : GroupLaws) (plan : PlanModel) (s : StateModel) (domain : Domain) (spare point : ℕ) (is_plan : IsPlan plan)
     (listed : slice_get plan.tree.domains s.node.0 ≡ Some domain) where
   abbrev d : Node
   d = view_in plan.tree s.node domain
@@ -172,8 +169,6 @@ module _ (l : SendingLaws) (plan : PlanModel) (s : StateModel) (domain : Domain)
         apart = apart_at (node_of plan.tree.domains) domain.items point ids f.leaves.group disjoint.0;
         here = members_there plan s.node domain.entries s.field ids f.leaves.present members;
         room = omega (arith, own, need, held, kept, f.room);
-        links = members_linked (record { these = l.more.outer; references = l.references; links = l.more.links; members = l.members })
-            plan s domain ids is_plan listed f.is f.keeps f.links members;
       }
 
   -- the members at the point are those of its group
@@ -229,11 +224,13 @@ module _ (l : SendingLaws) (plan : PlanModel) (s : StateModel) (domain : Domain)
         };
       }
 
-  sent_fit : (f : FitsTried plan d domain s (Waits spare point)) → AllFit plan (all_sent plan s f.leaves.ids s.field s.pass)
-  sent_fit f =
+  sent_fit : OuterLaws → (f : FitsTried plan d domain s (Waits spare point)) → AllFit plan (all_sent plan s f.leaves.ids s.field s.pass)
+  sent_fit o f =
       let g : GroupSent plan s domain f.leaves.ids = group_sent f in
+      let links : Each (LinksAt plan s.pass.known (levels_below s)) f.leaves.ids =
+      members_linked o plan s domain f.leaves.ids is_plan listed f.is f.keeps f.links g.members in
       all_fit plan s domain.entries f.leaves.ids s.field s.pass g.members g.below g.apart g.here (can_be_sent f).1
-      (omega (arith, f.room, f.most)) f.script g.links
+      (omega (arith, f.room, f.most)) f.script links
 
 -- ---- the laws
 
@@ -241,22 +238,20 @@ tried_view : NestedViewFollows → (plan : PlanModel) (s : StateModel) (d : Node
     → slice_get plan.tree.domains s.node.0 ≡ Some domain → FitsTried plan d domain s (Waits spare point)
     → FitsTried plan (view_in plan.tree s.node domain) domain s (Waits spare point)
 tried_view follows plan s d domain spare point is_plan listed f =
-    let is : node_of plan.tree.domains s.node ≡ Some (view_in plan.tree s.node domain) = follows plan.tree is_plan.program s.node domain listed in
-    let both : ◌≡◌ {A = Option Node} (Some d) (Some (view_in plan.tree s.node domain)) = sym f.is ∙ is in
-    let same : d ≡ view_in plan.tree s.node domain = cc in
+    let same : d ≡ view_in plan.tree s.node domain = view_is follows plan s.node domain d is_plan listed f.is in
     subst (λ (x : Node). FitsTried plan x domain s (Waits spare point)) same f
 
-pub groups_can_be_sent : SendingLaws → GroupsCanBeSent
+pub groups_can_be_sent : GroupLaws → GroupsCanBeSent
 groups_can_be_sent l plan s d domain spare point is_plan listed f =
     let v : FitsTried plan (view_in plan.tree s.node domain) domain s (Waits spare point) =
     tried_view l.more.follows plan s d domain spare point is_plan listed f in
     subst (λ (ids : List NodeId). AreBelow plan s ids × CanSendAll plan ids s.field s.pass)
     (sym (named_there l plan s domain spare point is_plan listed v)) (can_be_sent l plan s domain spare point is_plan listed v)
 
-pub sending_fits : SendingLaws → SendingFits
-sending_fits l plan s d domain spare point is_plan listed f =
+pub sending_fits : GroupLaws → OuterLaws → SendingFits
+sending_fits l o plan s d domain spare point is_plan listed f =
     let v : FitsTried plan (view_in plan.tree s.node domain) domain s (Waits spare point) =
     tried_view l.more.follows plan s d domain spare point is_plan listed f in
     subst (λ (ids : List NodeId). Fits plan (waiting_for plan s ids spare point) × AllFit plan (all_sent plan s ids s.field s.pass))
     (sym (named_there l plan s domain spare point is_plan listed v))
-    (waiting_fits l plan s domain spare point is_plan listed v, sent_fit l plan s domain spare point is_plan listed v)
+    (waiting_fits l plan s domain spare point is_plan listed v, sent_fit l plan s domain spare point is_plan listed o v)

@@ -13,8 +13,6 @@ pub fn groups_can_be_sent()
     tree_laws::each_domain_is_as_its_program();
     tree_laws::children_fill_slices();
     plan_laws::groups_need_no_more_than_their_domain();
-    plan_laws::outer_references_lead_out();
-    plan_laws::outer_references_of_members();
 }
 
 /// A domain that has sent the members of a group fits, waiting for them, and so does each of them.

@@ -7,6 +7,4 @@ returns c = groups_can_be_sent (record {
   disjoint = c.each_domain_is_as_its_program.ensures.disjoint;
   fill = c.children_fill_slices.ensures.fill;
   needs = c.groups_need_no_more_than_their_domain.ensures.groups;
-  references = c.outer_references_lead_out.ensures.references;
-  members = c.outer_references_of_members.ensures.members;
 })
