@@ -29,3 +29,4 @@ mod Courses
 mod FitsTries
 mod FitsEnds
 mod FitsStart
+mod Losses
