@@ -30,3 +30,11 @@ mod FitsTries
 mod FitsEnds
 mod FitsStart
 mod Losses
+mod AskedWords
+mod AskedCounts
+mod AskedLinks
+mod Viewed
+mod AskedMembers
+mod Asking
+mod RootStands
+mod Sent

@@ -4,6 +4,7 @@
 
 mod advance;
 pub mod advancing_laws;
+pub mod asking_laws;
 mod ending;
 mod laws_below;
 mod path;
