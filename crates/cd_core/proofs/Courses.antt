@@ -1,6 +1,6 @@
 -- What the tries of a domain come to, whatever they tell: a group of the domain where they wait, no more to spare than there were,
 -- and a machine on which all entries are present.
-use Rattle.std.proofs.Common.{◌≡◌, ℕ, zero, suc, ◌+◌, ◌-◌, ◌≤◌, ◌<◌, Bool, true, false, ◌==◌, bit_and, List, [], ◌∷◌, Option, None, Some, drop, length, slice_get, refl, ap, subst, sym, ◌∙◌, arith}
+use Rattle.std.proofs.Common.{◌≡◌, ℕ, zero, suc, ◌+◌, ◌≤◌, Bool, true, false, ◌==◌, bit_and, List, [], ◌∷◌, Some, drop, length, slice_get, refl, ap, subst, sym, ◌∙◌, arith}
 use Rattle.cd_tree.specs.declared.domain.NodeId.{NodeId}
 use Rattle.cd_tree.specs.declared.domain.Item.{Item}
 use Rattle.cd_tree.specs.declared.domain.Item.TheVariants as item
@@ -10,16 +10,15 @@ use Rattle.cd_tree.specs.KindSets.{no_kinds, kinds_without}
 use Rattle.cd_field.specs.FieldModel.{FieldModel, begun, reached_point}
 use Rattle.cd_keep.specs.PassModel.{PassModel}
 use Rattle.cd_kernel.specs.Computing.{computed}
-use Rattle.cd_tries.specs.declared.keep.Keep.{Keep}
 use Rattle.cd_tries.specs.declared.points.Arrival.{Arrival}
 use Rattle.cd_tries.specs.declared.points.Arrival.TheVariants as at
 use Rattle.cd_tries.specs.declared.tries.Course.{Course}
 use Rattle.cd_tries.specs.declared.tries.Stop.{Stop}
 use Rattle.cd_tries.specs.declared.tries.Stop.TheVariants.{Group, Passed, Failed, Broken}
 use Rattle.cd_tries.specs.Fitting.{ArePresentIn, CanRun, CanTry, HasWords, StrikesWithin}
-use Rattle.cd_tries.specs.Keeping.{Known, KeepsFit}
+use Rattle.cd_tries.specs.Keeping.{KeepsFit}
 use Rattle.cd_tries.specs.Refilling.{refilled_all}
-use Rattle.cd_tries.specs.Running.{Run as Ran, Trial, Tried, Means, by_found, comes_to, detected, halted, is_quiet, judged_at, means, next_begin, run_ends, run_to, tried_again, tried_from, tries_from, unless_failed, where_quiet}
+use Rattle.cd_tries.specs.Running.{Run as Ran, Trial, Tried, Means, by_found, comes_to, halted, is_quiet, judged_at, next_begin, run_ends, run_to, tried_again, tried_from, tries_from, unless_failed, where_quiet}
 use Rattle.cd_tries.specs.TryLaws.{PointsKeep, Stays, TriesKeep, TryingAgainKeeps}
 
 -- ---- where they stop

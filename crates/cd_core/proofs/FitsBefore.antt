@@ -1,25 +1,13 @@
 -- What the stage of a domain that fits gives its tries.
-use Rattle.std.proofs.Common.{◌≡◌, ℕ, zero, suc, ◌+◌, ◌≤◌, ◌<◌, ◌^◌, true, List, [], ◌∷◌, Option, Some, length, get_or, slice_get, sum_by, refl, ap, subst, sym, ◌∙◌, arith}
+use Rattle.std.proofs.Common.{◌≡◌, ℕ, ◌≤◌, ◌<◌, ◌^◌, List, Some, length, slice_get, sum_by, refl, subst, ◌∙◌, arith}
 use Rattle.std.proofs.lemmas.List.Sums.{get_or-le-sum_by}
 use Rattle.std.proofs.lemmas.Option.{slice_get_within, get_or_from_slice_get}
-use Rattle.cd_base.specs.declared.place.Place.{Place}
-use Rattle.cd_base.specs.Words.{Words}
-use Rattle.cd_tree.specs.declared.domain.NodeId.{NodeId}
 use Rattle.cd_tree.specs.declared.domain.Domain.{Domain}
-use Rattle.cd_tree.specs.Limits.{items_limit}
-use Rattle.cd_tree.specs.Meaning.{node_reach}
-use Rattle.cd_tree.specs.Scripts.{IsAccepted}
 use Rattle.cd_tree.specs.TreeModel.{FitsDomain}
 use Rattle.cd_tree.proofs.View.{domain_fits}
-use Rattle.cd_field.specs.FieldModel.{FieldModel, IsPresent}
-use Rattle.cd_keep.specs.PassModel.{PassModel, HoldsNothing}
 use Rattle.cd_cover.specs.Plans.{PlanModel, IsPlan}
-use Rattle.cd_tries.specs.declared.keep.Keep.{Keep}
-use Rattle.cd_tries.specs.declared.keep.Pieces.{Pieces}
-use Rattle.cd_tries.specs.Fitting.{ArePresentIn, CanPreserve, CanTry, StrikesWithin}
-use Rattle.cd_tries.specs.KeepLaws.{HoldsKeeps, PreservedAreHeld}
-use Rattle.cd_tries.specs.Preserving.{IsPreserved}
-use Rattle.cd_tries.specs.Running.{means, next_begin}
+use Rattle.cd_tries.specs.Fitting.{ArePresentIn}
+use Rattle.cd_tries.specs.Running.{next_begin}
 use Rattle.cd_core.specs.declared.state.Stage.{Stage}
 use Rattle.cd_core.specs.declared.state.Stage.TheVariants.{Ready, Waiting, Resumed, Lost, Ended}
 use Rattle.cd_core.specs.Advancing.{own_count}
@@ -33,22 +21,6 @@ use Rattle.cd_core.proofs.Facts.{reach_is, strikes_within}
 use Rattle.cd_core.proofs.Grounds.{view_in, plan_sound}
 use Rattle.cd_core.proofs.ReadyOnes.{can_preserve}
 use Rattle.cd_core.proofs.Views.{FitsView, fits_view}
-
--- a domain whose entries were preserved can be tried again
-pub can_try : PreservedAreHeld → (id : NodeId) (domain : Domain) (links : ℕ → Option Pieces) (halts : ℕ) (keeps : List Keep) (m n : FieldModel)
-    (p q : PassModel) → CanPreserve domain links m p → HoldsNothing p → StrikesWithin id domain.entries m.script
-    → IsPreserved id domain links keeps m n p q → CanTry (means id domain halts q.known keeps) n q
-can_try are_held id domain links halts keeps m n p q can nothing strikes said =
-    let holds : HoldsKeeps domain keeps p q = are_held id domain links keeps m n p q can nothing said in
-    let T : FieldModel → Type 0 = λ x. CanTry (means id domain halts q.known keeps) x q in
-    subst T (sym said.told) (record {
-      sound = can.sound;
-      words = λ p h. (can.present p h).known;
-      strikes = strikes;
-      known = refl;
-      keeps = holds.fit;
-      holds = holds.holds;
-    })
 
 -- one of the numbers that are summed is at most the sum
 within_sum : {A : Type 0} (f : A → ℕ) (xs : List A) (k : ℕ) (x : A) → slice_get xs k ≡ Some x → f x ≤ sum_by f xs

@@ -1,14 +1,12 @@
 -- A domain whose tries are done fits when it has completed or escalated: its pass holds nothing and has all its room again, and
 -- a root has put its entries back.
-use Rattle.std.proofs.Common.{◌≡◌, ◌⊎◌, inl, inr, ℕ, zero, suc, ◌+◌, ◌-◌, ◌≤◌, Bool, true, false, cond, is_none, List, [], ◌∷◌, Option, None, Some, length, slice_get, refl, ap, subst, sym, ◌∙◌, arith}
-use Rattle.cd_base.specs.declared.place.Place.{Place}
+use Rattle.std.proofs.Common.{◌≡◌, ◌⊎◌, inl, inr, ℕ, ◌+◌, ◌-◌, Bool, true, false, cond, is_none, List, [], ◌∷◌, Option, Some, slice_get, refl, ap, subst, sym, ◌∙◌, arith}
 use Rattle.cd_tree.specs.declared.domain.NodeId.{NodeId}
 use Rattle.cd_tree.specs.declared.domain.Domain.{Domain}
 use Rattle.cd_tree.specs.declared.document.Fault.{Fault}
 use Rattle.cd_tree.specs.declared.event.Cause.{Cause}
 use Rattle.cd_tree.specs.declared.event.Event.TheVariants.{Complete}
-use Rattle.cd_tree.specs.Domains.{Node, node_of, node_numbers}
-use Rattle.cd_tree.specs.Meaning.{in_entries, node_need, node_reach}
+use Rattle.cd_tree.specs.Domains.{Node, node_of}
 use Rattle.cd_tree.specs.Scripts.{IsAccepted, path_of}
 use Rattle.cd_tree.proofs.View.{first_has_none}
 use Rattle.cd_field.specs.FieldModel.{FieldModel, IsPresent, gone_up, told}
@@ -25,12 +23,11 @@ use Rattle.cd_core.specs.declared.state.Stage.TheVariants.{Ended}
 use Rattle.cd_core.specs.declared.verdict.Verdict.{Verdict}
 use Rattle.cd_core.specs.declared.verdict.Verdict.TheVariants.{Completes, Escalates}
 use Rattle.cd_core.specs.Advancing.{put_back_at_root}
-use Rattle.cd_core.specs.Fits.{BlamesOwn, Fits, IsBlamed, IsHere, IsHereAtEnd, LinksAreKept}
+use Rattle.cd_core.specs.Fits.{BlamesOwn, Fits, IsHereAtEnd, LinksAreKept}
 use Rattle.cd_core.specs.LawsBelow.{MoreLaws}
 use Rattle.cd_core.specs.StateLaws.{CompletingFits, EscalatingFits, completed, escalated_by}
 use Rattle.cd_core.specs.StateModel.{StateModel}
 use Rattle.cd_core.specs.Trying.{FitsTried}
-use Rattle.cd_core.proofs.Choices.{by_test}
 use Rattle.cd_core.proofs.Facts.{reach_is}
 use Rattle.cd_core.proofs.Grounds.{body_in, view_in}
 

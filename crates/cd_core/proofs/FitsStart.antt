@@ -1,11 +1,10 @@
 -- The state with which a root is started fits.
-use Rattle.std.proofs.Common.{◌≡◌, ℕ, ◌<◌, ◌≤◌, List, [], ◌∷◌, Option, None, Some, All, IsSomeAnd, Contains, length, map, slice_get, refl, ap, sym, ◌∙◌, arith}
+use Rattle.std.proofs.Common.{◌≡◌, ℕ, List, [], ◌∷◌, Option, None, Some, All, IsSomeAnd, Contains, length, map, slice_get, refl, ap, sym, ◌∙◌, arith}
 use Rattle.std.proofs.lemmas.List.{length-map}
 use Rattle.std.proofs.lemmas.List.Elements.{All-head, All-tail}
-use Rattle.cd_base.specs.declared.place.Place.{Place}
 use Rattle.cd_tree.specs.declared.domain.NodeId.{NodeId}
 use Rattle.cd_tree.specs.declared.domain.Domain.{Domain}
-use Rattle.cd_tree.specs.Domains.{Node, node_of, node_numbers, numbers_from, root_of}
+use Rattle.cd_tree.specs.Domains.{Node, node_of, node_numbers, root_of}
 use Rattle.cd_tree.specs.Meaning.{node_need, node_reach}
 use Rattle.cd_tree.proofs.EachDomain.{root_there}
 use Rattle.cd_tree.proofs.View.{domain_here}
@@ -21,7 +20,6 @@ use Rattle.cd_tries.specs.declared.shelf.Level.{Level}
 use Rattle.cd_core.specs.declared.state.Stage.TheVariants.{Ready}
 use Rattle.cd_core.specs.LawsBelow.{MoreLaws}
 use Rattle.cd_core.specs.StateLaws.{StartingFits}
-use Rattle.cd_core.specs.StateModel.{StateModel}
 use Rattle.cd_core.specs.Steps.{root_state}
 use Rattle.cd_core.proofs.Grounds.{body_in, view_in}
 

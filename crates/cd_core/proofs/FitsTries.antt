@@ -1,22 +1,20 @@
 -- A domain that fits still does when its tries are done: from wherever it was.
-use Rattle.std.proofs.Common.{◌≡◌, ℕ, zero, suc, ◌+◌, ◌-◌, ◌≤◌, ◌<◌, ◌==◌, ◌&&◌, nat_le, nat_lt, Bool, true, false, List, [], ◌∷◌, ◌++◌, Option, None, Some, IsSomeAnd, length, slice_get, slice_set, refl, ap, subst, sym, ◌∙◌, arith}
+use Rattle.std.proofs.Common.{◌≡◌, ℕ, zero, suc, ◌+◌, ◌-◌, ◌<◌, ◌==◌, nat_le, nat_lt, Bool, true, false, List, [], ◌∷◌, ◌++◌, Option, None, Some, IsSomeAnd, length, slice_get, refl, ap, subst, sym, ◌∙◌, arith}
 use Rattle.std.specs.Option.{option_map_or}
 use Rattle.std.proofs.lemmas.Bool.{and_parts, eq-eqb, or_left, or_right}
 use Rattle.std.proofs.lemmas.Bool.Decides.{nat_tests}
 use Rattle.std.proofs.lemmas.List.{length-append, length-set}
 use Rattle.std.proofs.lemmas.Option.{slice_get_within}
-use Rattle.cd_base.specs.declared.place.Place.{Place}
 use Rattle.cd_base.specs.declared.place.Range.{Range}
 use Rattle.cd_base.proofs.ListLemmas.{slice_get-last}
 use Rattle.cd_tree.specs.declared.domain.NodeId.{NodeId}
-use Rattle.cd_tree.specs.declared.domain.Entry.{Entry}
 use Rattle.cd_tree.specs.declared.domain.Domain.{Domain}
 use Rattle.cd_tree.specs.declared.document.Fault.{Fault}
 use Rattle.cd_tree.specs.declared.event.Cause.{Cause}
-use Rattle.cd_tree.specs.Domains.{Node, Body, body_numbers, node, node_of, node_numbers}
+use Rattle.cd_tree.specs.Domains.{Node, body_numbers, node, node_of, node_numbers}
 use Rattle.cd_tree.specs.KindSets.{no_kinds, halting}
 use Rattle.cd_tree.specs.Laws.{PathsGoDown}
-use Rattle.cd_tree.specs.Meaning.{in_entries, node_need, node_reach}
+use Rattle.cd_tree.specs.Meaning.{node_need}
 use Rattle.cd_tree.specs.Reading.{blame}
 use Rattle.cd_tree.specs.Scripts.{IsAccepted, path_of}
 use Rattle.cd_tree.specs.SliceLaws.{SlicesEndWithin, SlicesHaveTheirNumbers}
@@ -43,13 +41,13 @@ use Rattle.cd_core.specs.declared.state.Stage.TheVariants.{Ready, Waiting, Resum
 use Rattle.cd_core.specs.declared.verdict.Verdict.{Verdict}
 use Rattle.cd_core.specs.declared.verdict.Verdict.TheVariants.{Escalates}
 use Rattle.cd_core.specs.Advancing.{Judged, TriesSo, after_loss, judged_course, means_of, own_count, state_sending, verdict_of}
-use Rattle.cd_core.specs.Fits.{Fits, FitsStage, HasBegun, IsBlamed, IsOneOf, LinksAreKept}
+use Rattle.cd_core.specs.Fits.{Fits, FitsStage, HasBegun, IsBlamed}
 use Rattle.cd_core.specs.LawsBelow.{MoreLaws}
 use Rattle.cd_core.specs.StateLaws.{TriesFit}
 use Rattle.cd_core.specs.StateModel.{StateModel}
 use Rattle.cd_core.specs.Stands.{named}
 use Rattle.cd_core.specs.Steps.{CanMove}
-use Rattle.cd_core.specs.Trying.{CanGoOn, FitsTried, FitsVerdict, TriedFrom}
+use Rattle.cd_core.specs.Trying.{CanGoOn, FitsTried, FitsVerdict}
 use Rattle.cd_core.proofs.Courses.{EndsIn, Left, StopsIn, again_left, points_left, tries_end_in, try_stops}
 use Rattle.cd_core.proofs.Facts.{reach_is, strikes_within}
 use Rattle.cd_core.proofs.FitsBefore.{goes_on, here_present}

@@ -30,6 +30,12 @@ mod AfterTaking
 mod FitsTaken
 mod TakenOn
 mod TakesBack
+mod FitsBefore
+mod Courses
+mod FitsTries
+mod FitsEnds
+mod FitsStart
+mod Losses
 mod AskedWords
 mod AskedCounts
 mod AskedLinks

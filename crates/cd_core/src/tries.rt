@@ -19,7 +19,7 @@ use cd_cover::Plan;
 use cd_field::Field;
 use cd_keep::Pass;
 use cd_tree::{Cause, Domain, Kinds, NodeId, halting};
-use cd_tries::{Attempt, Course, Stop, go_on, preserve, try_again};
+use cd_tries::{Attempt, Course, Stop, go_on, keep_laws, preserve, try_again};
 use std::alloc::Global;
 use std::mem::replace;
 use std::sync::Wait;
@@ -122,6 +122,7 @@ impl<F: Field, P: Pass> NodeState<F, P> {
         ensures so { IfOk result (λ course. BeginsSo plan.now domain.now (state_model F.model P.model self.old) self.new.keeps (P.model self.new.pass) (judged_course plan.now self.old.node (record { field = F.model self.new.field; course = course }))) }
         ensures stays { OnOk result (state_model F.model P.model self.new ≡ record (state_model F.model P.model self.old) { keeps = self.new.keeps; field = F.model self.new.field; pass = P.model self.new.pass }) }
     {
+        keep_laws::what_is_preserved_is_held();
         let number = self.counts[0].saturating_add(1);
         self.field.begin(self.node, number)?;
         self.keeps = preserve(
