@@ -1,6 +1,7 @@
 // A domain goes on: its tries are made up to the next group, whose members are sent, or to its end.
-ghost use Rattle.std.specs.Prelude.{◌≡◌, Some, slice_get, IfOk, IsSomeAnd};
-ghost use Rattle.cd_tree.specs.Domains.{node_of};
+ghost use Rattle.std.specs.Prelude.{◌≡◌, Some, slice_get, IfOk, OnOk};
+ghost use Rattle.cd_tree.specs.Domains.{node, body_by, node_of};
+ghost use Rattle.cd_cover.specs.Plans.{IsPlan};
 ghost use Rattle.cd_core.specs.Fits.{Fits};
 ghost use Rattle.cd_core.specs.StateLaws.{Concludes};
 ghost use Rattle.cd_core.specs.StateModel.{state_model};
@@ -10,6 +11,7 @@ ghost use Rattle.cd_core.specs.Tasks.{Task};
 ghost use Rattle.cd_core.specs.Trying.{FitsTried};
 
 use crate::advancing_laws::{advancing_fits, advancing_stands};
+use crate::laws_below::laws_below;
 use crate::sending::members_at;
 use crate::sending_laws::groups_can_be_sent;
 use crate::trying_laws::{tries_can_be_made, tries_fit};
@@ -19,7 +21,7 @@ use cd_base::NoMemory;
 use cd_cover::Plan;
 use cd_field::Field;
 use cd_keep::Pass;
-use cd_tree::{Domain, laws};
+use cd_tree::Domain;
 use std::alloc::Global;
 use std::sync::Wait;
 
@@ -52,14 +54,17 @@ impl<F: Field, P: Pass> NodeState<F, P> {
     ) -> Result<Step<F, P>, NoMemory>
         requires fits { Fits plan.now (state_model F.model P.model self.old) }
         requires moves { CanMove self.old.stage }
-        ensures { IfOk result (λ step. AdvancesBy plan.now (state_model F.model P.model self.old) (state_model F.model P.model self.new) (step_model F.model P.model step)) }
+        ensures exact { IfOk result (λ step. AdvancesBy plan.now (state_model F.model P.model self.old) (state_model F.model P.model self.new) (step_model F.model P.model step)) }
+        ensures plan { OnOk result (IsPlan plan.now) }
     {
-        laws::the_nested_view_follows_the_list();
+        laws_below();
         tries_can_be_made();
         tries_fit();
-        let domain = plan.tree().node(self.node);
+        let tree = plan.tree();
+        let domain = tree.node(self.node);
         let verdict = self.make_tries(rt, alloc, plan, domain)?;
-        self.conclude(alloc, plan, domain, verdict)
+        let step = self.conclude(alloc, plan, domain, verdict)?;
+        Ok(step)
     }
 
     // Takes the step of a verdict.
@@ -70,10 +75,12 @@ impl<F: Field, P: Pass> NodeState<F, P> {
         domain: &Domain,
         verdict: Verdict,
     ) -> Result<Step<F, P>, NoMemory>
+        requires plan { IsPlan plan.now }
         requires domain { slice_get plan.now.tree.domains self.old.node.0 ≡ Some domain.now }
-        requires fits { IsSomeAnd (node_of plan.now.tree.domains self.old.node) (λ d. FitsTried plan.now d domain.now (state_model F.model P.model self.old) verdict) }
+        requires fits { FitsTried plan.now (node self.old.node domain.now (body_by (node_of plan.now.tree.domains) domain.now.items)) domain.now (state_model F.model P.model self.old) verdict }
         ensures { IfOk result (λ step. Concludes plan.now domain.now (state_model F.model P.model self.old) verdict (state_model F.model P.model self.new) (step_model F.model P.model step)) }
     {
+        laws_below();
         groups_can_be_sent();
         match verdict {
             Verdict::Waits { spare, point } => {
