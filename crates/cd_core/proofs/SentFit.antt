@@ -107,7 +107,7 @@ all_fit plan s entries (id ∷ ids) m p members below apart here can most accept
 
 -- ---- what holds of a group
 
-pub record GroupLaws : Type 0 where
+pub record SendingLaws : Type 0 where
   pub more : MoreLaws
   pub disjoint : DisjointInPrograms
   pub fill : ChildrenFillSlices
@@ -144,7 +144,7 @@ members_linked l plan s domain (id ∷ ids) is_plan listed is fits kept members 
   members_linked l plan s domain ids is_plan listed is fits kept members.1,
 )
 
-module _ (l : GroupLaws) (plan : PlanModel) (s : StateModel) (domain : Domain) (spare point : ℕ) (is_plan : IsPlan plan)
+module _ (l : SendingLaws) (plan : PlanModel) (s : StateModel) (domain : Domain) (spare point : ℕ) (is_plan : IsPlan plan)
     (listed : slice_get plan.tree.domains s.node.0 ≡ Some domain) where
   abbrev d : Node
   d = view_in plan.tree s.node domain
@@ -241,14 +241,14 @@ tried_view follows plan s d domain spare point is_plan listed f =
     let same : d ≡ view_in plan.tree s.node domain = view_is follows plan s.node domain d is_plan listed f.is in
     subst (λ (x : Node). FitsTried plan x domain s (Waits spare point)) same f
 
-pub groups_can_be_sent : GroupLaws → GroupsCanBeSent
+pub groups_can_be_sent : SendingLaws → GroupsCanBeSent
 groups_can_be_sent l plan s d domain spare point is_plan listed f =
     let v : FitsTried plan (view_in plan.tree s.node domain) domain s (Waits spare point) =
     tried_view l.more.follows plan s d domain spare point is_plan listed f in
     subst (λ (ids : List NodeId). AreBelow plan s ids × CanSendAll plan ids s.field s.pass)
     (sym (named_there l plan s domain spare point is_plan listed v)) (can_be_sent l plan s domain spare point is_plan listed v)
 
-pub sending_fits : GroupLaws → OuterLaws → SendingFits
+pub sending_fits : SendingLaws → OuterLaws → SendingFits
 sending_fits l o plan s d domain spare point is_plan listed f =
     let v : FitsTried plan (view_in plan.tree s.node domain) domain s (Waits spare point) =
     tried_view l.more.follows plan s d domain spare point is_plan listed f in

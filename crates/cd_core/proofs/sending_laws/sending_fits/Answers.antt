@@ -1,10 +1,10 @@
 use Rattle.cd_core.proofs.LinksBelow.{OuterLaws}
-use Rattle.cd_core.proofs.SentFit.{GroupLaws, sending_fits}
+use Rattle.cd_core.proofs.SentFit.{SendingLaws, sending_fits}
 use Rattle.cd_core.proofs.sending_laws.sending_fits.Goals as goal
 
 pub returns : goal.returns
 returns c =
-    let groups : GroupLaws = record {
+    let groups : SendingLaws = record {
       more = c.laws_below.ensures;
       disjoint = c.each_domain_is_as_its_program.ensures.disjoint;
       fill = c.children_fill_slices.ensures.fill;
