@@ -1,4 +1,4 @@
-use Rattle.std.proofs.Common.{◌≡◌, ◌∙◌, ap, length}
+use Rattle.std.proofs.Common.{◌∙◌, ap, length}
 use Rattle.cd_tree.specs.TreeModel.{TreeModel}
 use Rattle.cd_core.specs.StateLaws.{CanStart}
 use Rattle.cd_core.proofs.FitsStart.{made_root, root_fits, root_stands_there}
