@@ -6,7 +6,7 @@ use Rattle.cd_tree.specs.declared.domain.Domain.{Domain}
 use Rattle.cd_tree.specs.declared.document.Fault.{Fault}
 use Rattle.cd_tree.specs.declared.event.Cause.{Cause}
 use Rattle.cd_tree.specs.declared.event.Event.TheVariants.{Complete}
-use Rattle.cd_tree.specs.Domains.{Node, node_of}
+use Rattle.cd_tree.specs.Domains.{Node}
 use Rattle.cd_tree.specs.Scripts.{IsAccepted, path_of}
 use Rattle.cd_tree.proofs.View.{first_has_none}
 use Rattle.cd_field.specs.FieldModel.{FieldModel, IsPresent, gone_up, told}
@@ -30,6 +30,7 @@ use Rattle.cd_core.specs.StateModel.{StateModel}
 use Rattle.cd_core.specs.Trying.{FitsTried}
 use Rattle.cd_core.proofs.Facts.{reach_is}
 use Rattle.cd_core.proofs.Grounds.{body_in, view_in}
+use Rattle.cd_core.proofs.Viewed.{view_is}
 
 -- ---- what is given up
 
@@ -154,20 +155,13 @@ module _ (l : MoreLaws) (plan : PlanModel) (s : StateModel) (domain : Domain) (i
       (let there : IsPresent n p = here_at_end cause over n f e why p (sym (reach_is l plan s.node domain is_plan listed p) ∙ h) in
       record { known = there.known; here = there.here }))
 
--- a domain of a program is the one that is listed
-one_view : MoreLaws → (plan : PlanModel) (id : NodeId) (domain : Domain) (d : Node) → IsPlan plan → slice_get plan.tree.domains id.0 ≡ Some domain
-    → node_of plan.tree.domains id ≡ Some d → d ≡ view_in plan.tree id domain
-one_view l plan id domain d is_plan listed is =
-    let both : ◌≡◌ {A = Option Node} (Some d) (Some (view_in plan.tree id domain)) = sym is ∙ l.follows plan.tree is_plan.program id domain listed in
-    cc
-
 -- the laws: what completes fits, and so does what escalates
 pub ends_completed : MoreLaws → CompletingFits
 ends_completed l plan s d domain leak is_plan listed f =
     let D : Node → Type 0 = λ x. FitsTried plan x domain s (Completes leak) in
-    completed_fits l plan s domain is_plan listed leak (subst D (one_view l plan s.node domain d is_plan listed f.is) f)
+    completed_fits l plan s domain is_plan listed leak (subst D (view_is l.follows plan s.node domain d is_plan listed f.is) f)
 
 pub ends_escalated : MoreLaws → EscalatingFits
 ends_escalated l plan s d domain cause over is_plan listed f =
     let D : Node → Type 0 = λ x. FitsTried plan x domain s (Escalates cause over) in
-    escalated_fits l plan s domain is_plan listed cause over (subst D (one_view l plan s.node domain d is_plan listed f.is) f)
+    escalated_fits l plan s domain is_plan listed cause over (subst D (view_is l.follows plan s.node domain d is_plan listed f.is) f)

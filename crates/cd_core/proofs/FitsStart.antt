@@ -1,5 +1,5 @@
 -- The state with which a root is started fits.
-use Rattle.std.proofs.Common.{◌≡◌, ℕ, List, [], ◌∷◌, Option, None, Some, All, IsSomeAnd, Contains, length, map, slice_get, refl, ap, sym, ◌∙◌, arith}
+use Rattle.std.proofs.Common.{◌≡◌, ℕ, ◌≤◌, List, [], ◌∷◌, Option, None, Some, All, IsSomeAnd, Contains, length, map, slice_get, refl, ap, subst, sym, ◌∙◌, arith}
 use Rattle.std.proofs.lemmas.List.{length-map}
 use Rattle.std.proofs.lemmas.List.Elements.{All-head, All-tail}
 use Rattle.cd_tree.specs.declared.domain.NodeId.{NodeId}
@@ -19,9 +19,13 @@ use Rattle.cd_tries.specs.declared.keep.Keep.{Keep}
 use Rattle.cd_tries.specs.declared.shelf.Level.{Level}
 use Rattle.cd_core.specs.declared.state.Stage.TheVariants.{Ready}
 use Rattle.cd_core.specs.LawsBelow.{MoreLaws}
-use Rattle.cd_core.specs.StateLaws.{StartingFits}
-use Rattle.cd_core.specs.Steps.{root_state}
+use Rattle.cd_core.specs.Fits.{Fits}
+use Rattle.cd_core.specs.StateLaws.{CanStart, StartingFits, StartingStands}
+use Rattle.cd_core.specs.StateModel.{StateModel}
+use Rattle.cd_core.specs.Stands.{Stands}
+use Rattle.cd_core.specs.Steps.{root_state, root_task}
 use Rattle.cd_core.proofs.Grounds.{body_in, view_in}
+use Rattle.cd_core.proofs.Viewed.{view_is}
 
 abbrev root_id : NodeId
 root_id = record { 0 = 0 }
@@ -42,12 +46,11 @@ no_outer l plan domain is_plan is (below, at) outer =
 -- the law: a root that is started fits
 pub start_fits : MoreLaws → StartingFits
 start_fits l plan m p is_plan few can =
-    let domains : List Domain = plan.tree.domains in
     let first : (domain : Domain) × (slice_get plan.tree.domains 0 ≡ Some domain) = domain_here plan.tree.domains 0 is_plan.program.some in
     let d : Node = view_in plan.tree root_id first.0 in
     let is : node_of plan.tree.domains root_id ≡ Some d = l.follows plan.tree is_plan.program root_id first.0 first.1 in
-    let both : ◌≡◌ {A = Option Node} (Some (root_of plan.tree.domains)) (Some d) = sym (root_there plan.tree.domains is_plan.program.some) ∙ is in
-    let root : root_of plan.tree.domains ≡ d = cc in
+    let root : root_of plan.tree.domains ≡ d =
+    view_is l.follows plan root_id first.0 (root_of plan.tree.domains) is_plan first.1 (root_there plan.tree.domains is_plan.program.some) in
     let need : node_need (root_of plan.tree.domains) ≡ node_need d = ap (λ (x : Node). node_need x) root in
     record {
       domain = first.0;
@@ -84,3 +87,16 @@ made_root plan m p counts keeps above many zeros no_keeps no_levels =
     ap (λ (cs : List ℕ). record (root_state plan m p) { counts = cs; keeps = keeps; above = above }) (zeros_are plan.tree.domains counts many zeros)
     ∙ ap (λ (ks : List Keep). record (root_state plan m p) { keeps = ks; above = above }) no_keeps
     ∙ ap (λ (ls : List Level). record (root_state plan m p) { above = ls }) no_levels
+
+-- it fits, and stands
+pub root_fits : StartingFits → (plan : PlanModel) (m : FieldModel) (p : PassModel) (s : StateModel) → IsPlan plan → p.room ≤ p.most
+    → CanStart plan m p → s ≡ root_state plan m p → Fits plan s
+root_fits starts plan m p s is_plan within can is =
+    let F : StateModel → Type 0 = λ x. Fits plan x in
+    subst F (sym is) (starts plan m p is_plan within can)
+
+pub root_stands_there : StartingStands → (plan : PlanModel) (m : FieldModel) (p : PassModel) (s : StateModel) → IsPlan plan → p.room ≤ p.most
+    → CanStart plan m p → s ≡ root_state plan m p → Stands plan (root_task plan m) s
+root_stands_there starts plan m p s is_plan within can is =
+    let S : StateModel → Type 0 = λ x. Stands plan (root_task plan m) x in
+    subst S (sym is) (starts plan m p is_plan within can)

@@ -53,6 +53,7 @@ use Rattle.cd_core.proofs.Facts.{reach_is, strikes_within}
 use Rattle.cd_core.proofs.FitsBefore.{goes_on, here_present}
 use Rattle.cd_core.proofs.Grounds.{body_in, plan_apart, plan_sound, view_in}
 use Rattle.cd_core.proofs.ReadyOnes.{can_preserve}
+use Rattle.cd_core.proofs.Viewed.{view_is}
 use Rattle.cd_core.proofs.Views.{FitsView, fits_view}
 
 -- ---- whom an escalation blames
@@ -146,8 +147,7 @@ module _ (l : MoreLaws) (plan : PlanModel) (s : StateModel) (domain : Domain) (i
       → FitsVerdict plan d domain (after keeps begin m q stage) verdict → FitsTried plan d domain (after keeps begin m q stage) verdict
   tried_fits keeps begin m q stage verdict left leaves =
       let is : node_of plan.tree.domains s.node ≡ Some d = l.follows plan.tree is_plan.program s.node domain listed in
-      let both : ◌≡◌ {A = Option Node} (Some (node s.node fits.domain fits.body)) (Some d) = sym fits.is ∙ is in
-      let same : node s.node fits.domain fits.body ≡ d = cc in
+      let same : node s.node fits.domain fits.body ≡ d = view_is l.follows plan s.node domain (node s.node fits.domain fits.body) is_plan listed fits.is in
       let size : length s.counts ≡ length (node_numbers d) = fits.counts ∙ ap (λ (x : Node). length (node_numbers x)) same in
       let need : node_need (node s.node fits.domain fits.body) ≡ node_need d = ap (λ (x : Node). node_need x) same in
       let S : List Fault → Type 0 = λ fs. IsAccepted plan.tree fs in
@@ -305,12 +305,9 @@ module _ (l : MoreLaws) (plan : PlanModel) (s : StateModel) (domain : Domain) (i
 pub tries_leave_fitting : MoreLaws → PathsGoDown → SlicesHaveTheirNumbers → SlicesEndWithin → TriesFit
 tries_leave_fitting l down have end plan old new domain verdict is_plan listed fits moves t d is =
     let view : FitsView plan old domain = fits_view l.follows plan old domain is_plan listed fits in
-    let both : ◌≡◌ {A = Option Node} (Some (view_in plan.tree old.node domain)) (Some d) =
-    sym (l.follows plan.tree is_plan.program old.node domain listed) ∙ is in
-    let same : view_in plan.tree old.node domain ≡ d = cc in
     let D : Node → Type 0 = λ x. FitsTried plan x domain new verdict in
     let S : StateModel → Type 0 = λ x. FitsTried plan (view_in plan.tree old.node domain) domain x verdict in
     let V : Verdict → Type 0 = λ v.
     FitsTried plan (view_in plan.tree old.node domain) domain (record (state_sending old t.keeps t.judged.begin t.judged.field t.pass) { stage = new.stage }) v in
-    subst D same (subst S (sym t.state) (subst V (sym t.is)
+    subst D (sym (view_is l.follows plan old.node domain d is_plan listed is)) (subst S (sym t.state) (subst V (sym t.is)
     (by_stage l plan old domain is_plan listed fits view down have end t.keeps t.pass t.judged new.stage old.stage view.stage moves t.tried)))
