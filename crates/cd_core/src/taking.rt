@@ -81,7 +81,7 @@ impl<F: Field, P: Pass> NodeState<F, P> {
         self.counts[low..high].copy_from_slice(counts);
     }
 
-    // Goes on behind the group, or leaves the try to its end, with the kinds that the domain does not declare.
+    // Goes on after the group, or leaves the try to its end, with the kinds that the domain does not declare.
     fn settle(&mut self, detects: Kinds, lost: Option<(Cause, Kinds)>)
         requires waits { IsWaiting self.old.stage }
         ensures { state_model F.model P.model self.new ≡ record (state_model F.model P.model self.old) { stage = stage_after detects lost self.old.stage } }
