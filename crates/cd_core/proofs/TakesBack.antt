@@ -31,14 +31,12 @@ takes_back plan s children domain listed waits members takes =
       takes = takes;
     }
 
-pub can_take : MembersCanBeTaken → (plan : PlanModel) (s : StateModel) (children : List StateModel) (domain : Domain) (commit : Bool)
+pub can_take : MembersCanBeTaken → (plan : PlanModel) (s : StateModel) (children : List StateModel) (domain : Domain)
     → IsPlan plan → Fits plan s → slice_get plan.tree.domains s.node.0 ≡ Some domain → IsWaiting s.stage
     → IsSomeAnd (slice_get plan.tree.domains s.node.0) (λ d. nodes_of children ≡ members_at d (waits_at s.stage))
-    → CanTakeEach plan s (all_done (first_escalation children)) children → commit ≡ all_done (first_escalation children)
-    → CanTakeAll commit s children
-can_take law plan s children domain commit is_plan f listed waits members takes is =
-    let C : Bool → Type 0 = λ b. CanTakeAll b s children in
-    subst C (sym is) (law plan s children is_plan f (takes_back plan s children domain listed waits members takes))
+    → CanTakeEach plan s (all_done (first_escalation children)) children → CanTakeAll (all_done (first_escalation children)) s children
+can_take law plan s children domain is_plan f listed waits members takes =
+    law plan s children is_plan f (takes_back plan s children domain listed waits members takes)
 
 pub fits_after : ResumingFits → (plan : PlanModel) (s new : StateModel) (children : List StateModel) (domain : Domain)
     → IsPlan plan → Fits plan s → slice_get plan.tree.domains s.node.0 ≡ Some domain → IsWaiting s.stage

@@ -9,7 +9,6 @@ ghost use Rattle.cd_core.specs.StateModel.{state_model};
 ghost use Rattle.cd_core.specs.Steps.{IsWaiting, waits_at};
 ghost use Rattle.cd_core.specs.Tasks.{Task};
 
-use crate::taking::none_escalated;
 use crate::{NodeState, returning_laws, taking_laws};
 use cd_base::NoMemory;
 use cd_cover::Plan;
@@ -31,10 +30,7 @@ impl<F: Field, P: Pass> NodeState<F, P> {
         taking_laws::members_can_be_taken();
         taking_laws::resuming_fits();
         returning_laws::resuming_stands();
-        let detects = plan.tree().node(self.node).detects;
-        let commit = none_escalated(children.as_slice());
-        let lost = self.take_all(children, commit)?;
-        self.settle(detects, lost);
+        self.take_group(plan.tree().node(self.node), children)?;
         Ok(())
     }
 }

@@ -1,6 +1,6 @@
 // The members of a group, taken back: of each its record, its room and its counts, and what its escalation leaves over.
 ghost use Rattle.std.specs.Prelude.{◌≡◌, ◌+◌, ◌-◌, ◌≤◌, Some, length, map, IfOk, OnOk};
-ghost use Rattle.cd_core.specs.Resuming.{all_done, escalation, first_escalation, put_at, with_more};
+ghost use Rattle.cd_core.specs.Resuming.{all_done, escalation, first_escalation, put_at, resumed, with_more};
 ghost use Rattle.cd_core.specs.StateModel.{state_model};
 ghost use Rattle.cd_core.specs.Steps.{IsWaiting};
 ghost use Rattle.cd_core.specs.TakingBack.{CanTakeAll, CanTakeNext, stage_after, took, took_all};
@@ -9,11 +9,27 @@ use crate::{Ending, NodeState, Stage};
 use cd_base::NoMemory;
 use cd_field::Field;
 use cd_keep::Pass;
-use cd_tree::{Cause, Kinds, NodeId};
+use cd_tree::{Cause, Domain, Kinds, NodeId};
 
 impl<F: Field, P: Pass> NodeState<F, P> {
+    // Takes the members of the group back: all are committed, or, where one escalated, none.
+    pub(crate) fn take_group(
+        &mut self,
+        domain: &Domain,
+        children: Vec<NodeState<F, P>>,
+    ) -> Result<(), NoMemory>
+        requires waits { IsWaiting self.old.stage }
+        requires can { CanTakeAll (all_done (first_escalation (map (state_model F.model P.model) children.items))) (state_model F.model P.model self.old) (map (state_model F.model P.model) children.items) }
+        ensures { OnOk result (state_model F.model P.model self.new ≡ resumed (state_model F.model P.model self.old) domain.now (map (state_model F.model P.model) children.items)) }
+    {
+        let commit = none_escalated(children.as_slice());
+        let lost = self.take_all(children, commit)?;
+        self.settle(domain.detects, lost);
+        Ok(())
+    }
+
     // Takes the members back, in order; answers the first one's escalation, with what all of them leave over.
-    pub(crate) fn take_all(
+    fn take_all(
         &mut self,
         children: Vec<NodeState<F, P>>,
         commit: bool,
@@ -65,8 +81,8 @@ impl<F: Field, P: Pass> NodeState<F, P> {
         self.counts[low..high].copy_from_slice(counts);
     }
 
-    // Goes on behind the group, or leaves the try to its end, with the kinds that the domain does not declare.
-    pub(crate) fn settle(&mut self, detects: Kinds, lost: Option<(Cause, Kinds)>)
+    // Goes on after the group, or leaves the try to its end, with the kinds that the domain does not declare.
+    fn settle(&mut self, detects: Kinds, lost: Option<(Cause, Kinds)>)
         requires waits { IsWaiting self.old.stage }
         ensures { state_model F.model P.model self.new ≡ record (state_model F.model P.model self.old) { stage = stage_after detects lost self.old.stage } }
     {
@@ -92,7 +108,7 @@ impl<F: Field, P: Pass> NodeState<F, P> {
 }
 
 // Whether none of these states escalated.
-pub(crate) fn none_escalated<F: Field, P: Pass>(children: &[NodeState<F, P>]) -> bool
+fn none_escalated<F: Field, P: Pass>(children: &[NodeState<F, P>]) -> bool
     ensures { result ≡ all_done (first_escalation (map (state_model F.model P.model) children.now)) }
 {
     for child in children {
