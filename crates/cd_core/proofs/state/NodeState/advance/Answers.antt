@@ -1,4 +1,3 @@
-use Rattle.std.proofs.Common.{◌≡◌}
 use Rattle.cd_core.specs.StateModel.{state_model}
 use Rattle.cd_core.specs.Steps.{step_model}
 use Rattle.cd_core.proofs.Moving.{exactly}

@@ -1,10 +1,9 @@
-use Rattle.std.proofs.Common.{◌≡◌, List, subst, sym}
+use Rattle.std.proofs.Common.{List, subst, sym}
 use Rattle.cd_tree.specs.declared.domain.NodeId.{NodeId}
 use Rattle.cd_tree.specs.Domains.{Node}
 use Rattle.cd_tree.proofs.View.{domain_fits}
 use Rattle.cd_core.specs.declared.verdict.Verdict.{Verdict}
 use Rattle.cd_core.specs.declared.verdict.Verdict.TheVariants.{Waits}
-use Rattle.cd_core.specs.Advancing.{members_at}
 use Rattle.cd_core.specs.StateModel.{StateModel, state_model}
 use Rattle.cd_core.specs.Trying.{AreBelow, CanSendAll, FitsTried}
 use Rattle.cd_core.proofs.Grounds.{view_in}

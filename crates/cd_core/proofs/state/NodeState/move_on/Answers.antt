@@ -1,4 +1,4 @@
-use Rattle.std.proofs.Common.{◌≡◌, ◌<◌, Some, length, slice_get, ap, subst, sym, ◌∙◌}
+use Rattle.std.proofs.Common.{◌<◌, length, slice_get, ap, subst, sym, ◌∙◌}
 use Rattle.cd_tree.specs.Domains.{node}
 use Rattle.cd_tree.specs.TreeModel.{TreeModel}
 use Rattle.cd_tree.proofs.EachDomain.{number_within}
