@@ -35,5 +35,5 @@ returns-clause-stands g c =
       holds = c.requires.holds;
       room = c.requires.room;
     } in
-    root_stands_there (c.starting_stands.ensures c.starting_fits.ensures) c.args.plan.now (g.F.Field.model c.args.field) (g.P.Pass.model c.args.pass) _
+    root_stands_there c.starting_stands.ensures c.args.plan.now (g.F.Field.model c.args.field) (g.P.Pass.model c.args.pass) _
     c.tree.ensures.sound c.room_is_within.ensures can (returns-clause-exact g c)
