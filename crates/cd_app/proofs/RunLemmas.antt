@@ -20,7 +20,7 @@ use Rattle.cd_tree.specs.Record.{reading}
 use Rattle.cd_script.specs.Acceptance.{AreFoundAs}
 use Rattle.cd_parse.specs.WellRead.{WellRead, IsReadRange, AreReadEntries, AreReadDomains}
 use Rattle.cd_field.specs.FieldModel.{FieldModel, IsPresent, loaded}
-use Rattle.cd_core.specs.Single.{OnlyCopies}
+use Rattle.cd_single.specs.Single.{OnlyCopies}
 use Rattle.cd_app.specs.Running.{HoldsRun, words_at_end}
 
 -- ---- the reading's counts

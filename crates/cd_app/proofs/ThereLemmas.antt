@@ -16,7 +16,7 @@ use Rattle.cd_tree.specs.Limits.{faults_limit}
 use Rattle.cd_tree.specs.TreeModel.{TreeModel}
 use Rattle.cd_check.specs.Checking.{Passes}
 use Rattle.cd_check.specs.There.{IsRefused, DocumentIsJudged}
-use Rattle.cd_core.specs.Single.{OnlyCopies, NeverHalts}
+use Rattle.cd_single.specs.Single.{OnlyCopies, NeverHalts}
 use Rattle.cd_parse.specs.Laws.{ParsedIsWellRead}
 use Rattle.cd_parse.specs.WellRead.{WellRead}
 use Rattle.cd_parse.specs.Parsing.{parse}

@@ -10,7 +10,7 @@ use Rattle.cd_tree.specs.Reading.{NodeEnd, Done as Completed, Escalated}
 use Rattle.cd_tree.specs.Record.{reading, record_of}
 use Rattle.cd_print.specs.Canonical.{canonical, lifted}
 use Rattle.cd_field.specs.FieldModel.{FieldModel, nowhere}
-use Rattle.cd_core.specs.Single.{OnlyCopies, NeverHalts}
+use Rattle.cd_single.specs.Single.{OnlyCopies, NeverHalts}
 use Rattle.cd_reading.specs.Through.{begins_in, cause_in}
 use Rattle.cd_report.specs.Records.{run_text}
 use Rattle.cd_report.specs.Texts.{reading_text, accepted_line}

@@ -1,9 +1,12 @@
--- How a run on a machine follows the reading.
-use Rattle.std.proofs.Common.{◌≡◌, ℕ, suc, zero, ◌+◌, Bool, true, false, ◌==◌, List, [], ◌∷◌, ◌++◌, length, None, refl, ap, subst, sym, ◌∙◌, append_assoc, bit_and, bit_or, is_none}
-use Rattle.std.proofs.Math.Path.{fun_ext}
-use Rattle.std.specs.Int.Bits.{and_zero_r}
+-- How a try on a machine follows the fronts of its domain's reading, from point to point.
+use Rattle.std.proofs.Common.{◌≡◌, ℕ, zero, suc, ◌+◌, ◌-◌, ◌<◌, Bool, true, false, ◌==◌, List, [], ◌∷◌, ◌++◌, Option, None, Some, All, length, refl, ap, ap₂, subst, sym, ◌∙◌, bit_and, bit_or, arith}
+use Rattle.std.proofs.lemmas.Bool.{cases_Bool}
+use Rattle.std.proofs.Common.{inl, inr}
+use Rattle.std.specs.Int.Bits.{or_add_and, and_le_l}
+use Rattle.std.proofs.lemmas.Nat.{and_le_r}
+use Rattle.std.specs.Option.{option_and_then}
 use Rattle.cd_base.specs.declared.place.Place.{Place}
-use Rattle.cd_base.specs.Words.{Words, PlaceSet}
+use Rattle.cd_base.specs.Words.{Words, in_range, in_ranges}
 use Rattle.cd_tree.specs.declared.domain.NodeId.{NodeId}
 use Rattle.cd_tree.specs.declared.domain.Entry.{Entry}
 use Rattle.cd_tree.specs.declared.domain.Item.{Item}
@@ -11,231 +14,177 @@ use Rattle.cd_tree.specs.declared.domain.Item.TheVariants.{Run, Group}
 use Rattle.cd_tree.specs.declared.domain.Domain.{Domain}
 use Rattle.cd_tree.specs.declared.document.Fault.{Fault}
 use Rattle.cd_tree.specs.declared.event.Event.{Event}
-use Rattle.cd_tree.specs.declared.event.Event.TheVariants.{Begin, Reached, Found, Complete}
+use Rattle.cd_tree.specs.declared.event.Event.TheVariants.{Reached}
+use Rattle.cd_tree.specs.declared.operation.Op.{Op}
 use Rattle.cd_tree.specs.KindSets.{no_kinds}
-use Rattle.cd_tree.specs.Domains.{body_by}
+use Rattle.cd_tree.specs.Domains.{Node, Body, Members, node, stop, run, group, body_by, members_by, body_behind}
+use Rattle.cd_tree.specs.FirstItems.{meaning_of_first, RunComesNext, OneItemLess}
+use Rattle.cd_tree.specs.Fronts.{Front, Stand, arrives, arrival, past_item, next_point, where_none, front_of_node}
+use Rattle.cd_tree.specs.FrontLaws.{NextPointIsThere, FrontsStand}
+use Rattle.cd_tree.specs.Legal.{Legal, nothing, same}
+use Rattle.cd_tree.specs.LegalLaws.{LegalPieces}
+use Rattle.cd_tree.specs.Locality.{SameWords, OperationsActLocally}
 use Rattle.cd_tree.specs.Meaning.{in_entries}
-use Rattle.cd_tree.specs.Scripts.{struck, kinds_of}
-use Rattle.cd_tree.specs.Reading.{Counts, Past, silence, only_events, Told, told, after, TryEnd, Passed, Failed, Broken, NodeEnd, Done, Escalated, escalation, Try, arrived, unless_halted, detected, judged, ended, unless_failed, tries, read_points, counted, refilled_from}
-use Rattle.cd_field.specs.FieldModel.{FieldModel, IsPresent, hits_at, reached_point, begun}
-use Rattle.cd_core.specs.Copies.{copies_of, restored_from}
-use Rattle.cd_core.specs.Single.{Leads, quiet_case, plain_body, root_id, root_try, root_again, root_reading, item_run, run_from, tried, restarted, StaysWithin, CanRun, IsReady, IsTried}
-use Rattle.cd_core.proofs.Frames.{run_frame, runs_through, run-outside, run_meant}
-use Rattle.cd_core.proofs.Restoring.{restored-frame, restored-words, restored-lost, restored-events, copies_fit}
+use Rattle.cd_tree.specs.Operations.{op_meaning, op_reads, op_writes}
+use Rattle.cd_tree.specs.Reading.{Case, Counts, Past, joined, Told, told, after, Try}
+use Rattle.cd_tree.specs.Scripts.{struck, kinds_of, words_struck}
+use Rattle.cd_tree.specs.TreeModel.{TreeModel}
+use Rattle.cd_field.specs.FieldModel.{FieldModel, hits_at, reached_point}
+use Rattle.cd_kernel.specs.Computing.{computed}
+use Rattle.cd_tries.specs.declared.points.Arrival.{Arrival}
+use Rattle.cd_tries.specs.declared.points.Arrival.TheVariants as at
+use Rattle.cd_tries.specs.Fitting.{ItemStays, StrikesWithin}
+use Rattle.cd_tries.specs.Running.{Run as Ran, run_to, run_ends, is_quiet, where_quiet}
+use Rattle.cd_core.proofs.Strikes.{quiet_hits}
+use Rattle.cd_core.proofs.Choices.{or_left, or_right}
 
-pub leads_on : {A : Type 0} (e f : List Event) (t u v : Told A) → Leads e t u → Leads f u v → Leads (e ++ f) t v
-leads_on {A} e f t u v first second = record {
-  heard = first.heard ∙ ap (λ (es : List Event). e ++ es) second.heard ∙ sym (append_assoc e f v.past.events);
-  counts = first.counts ∙ second.counts;
-  answer = first.answer ∙ second.answer;
-}
+-- the case of a machine, and the try in hand on it
+abbrev pub case_on : ℕ → FieldModel → Case
+case_on halts m = record { halts = halts; faults = m.script }
 
-pub leads_after : {A : Type 0} (past : Past) (t : Told A) → Leads past.events (after past t) t
-leads_after {A} past t = record { heard = refl; counts = refl; answer = refl }
+abbrev pub try_on : Domain → FieldModel → Try
+try_on domain m = record { node = m.node; detects = domain.detects; begin = m.begin }
 
--- where no kind halts, a try goes on behind each point
-pub arrived_quiet : (faults : List Fault) (h : Try) (point notes : ℕ) (counts : Counts) (next : ℕ → Told TryEnd)
-    → arrived (quiet_case faults) h point notes counts next
-    ≡ after (record { events = Reached h.node point ∷ []; repeats = 0; strikes = length (struck faults h.node h.begin point) })
-    (next (bit_or notes (kinds_of (struck faults h.node h.begin point))))
-arrived_quiet faults h point notes counts next =
-    let kinds : ℕ = kinds_of (struck faults h.node h.begin point) in
-    ap (λ (halts : ℕ). after (record { events = Reached h.node point ∷ []; repeats = 0; strikes = length (struck faults h.node h.begin point) })
-    (unless_halted h halts (bit_or notes kinds) counts next (halts == no_kinds)))
-    (and_zero_r kinds)
+-- where no note is, nothing was noted before, nor at the point
+none_left : (a b : ℕ) → bit_or a b ≡ 0 → a ≡ 0
+none_left a b none = omega (arith, or_add_and a b, and_le_r a b)
 
--- what the reading tells of a try from a point to its judgement
-pub record RunLeads (detects : ℕ) (m : FieldModel) (point : ℕ) (items : List Item) (counts : Counts) : Type 0 where
-  pub heard : List Event
-  pub leads : Leads heard
-      (read_points (quiet_case m.script) (body_by (λ id. None) items) (record { node = m.node; detects = detects; begin = m.begin }) point m.notes counts)
-      (detected (record { node = m.node; detects = detects; begin = m.begin }) (run_from m point items).notes counts)
-  pub events : (run_from m point items).events ≡ m.events ++ heard
+none_right : (a b : ℕ) → bit_or a b ≡ 0 → b ≡ 0
+none_right a b none = omega (arith, or_add_and a b, and_le_l a b)
 
-pub run_leads : (entries : List Entry) (detects : ℕ) (m : FieldModel) (point : ℕ) (items : List Item) (counts : Counts)
-    → StaysWithin entries items → RunLeads detects m point items counts
-unfolding read_points
-run_leads entries detects m point [] counts stays =
-    let h : Try = record { node = m.node; detects = detects; begin = m.begin } in
-    record {
-      heard = Reached m.node point ∷ [];
-      leads = (let P : Told TryEnd → Type 0 = λ t. Leads (Reached m.node point ∷ []) t (detected h (run_from m point []).notes counts) in
-          subst P (sym (arrived_quiet m.script h point m.notes counts (λ seen. detected h seen counts)))
-          (leads_after (record { events = Reached m.node point ∷ []; repeats = 0; strikes = length (hits_at m point) })
-          (detected h (run_from m point []).notes counts)));
-      events = refl;
-    }
-run_leads entries detects m point (Run op ∷ items) counts stays =
-    let h : Try = record { node = m.node; detects = detects; begin = m.begin } in
-    let next : FieldModel = item_run (reached_point m point) (Run op) in
-    let rest : RunLeads detects next (suc point) items counts = run_leads entries detects next (suc point) items counts stays.1 in
-    let go : ℕ → Told TryEnd = λ seen. read_points (quiet_case m.script) (body_by (λ id. None) items) h (suc point) seen counts in
-    record {
-      heard = (Reached m.node point ∷ []) ++ rest.heard;
-      leads = (let P : Told TryEnd → Type 0 = λ t. Leads ((Reached m.node point ∷ []) ++ rest.heard) t (detected h (run_from m point (Run op ∷ items)).notes counts) in
-          subst P (sym (arrived_quiet m.script h point m.notes counts go))
-          (leads_on (Reached m.node point ∷ []) rest.heard _ (go next.notes) _
-          (leads_after (record { events = Reached m.node point ∷ []; repeats = 0; strikes = length (hits_at m point) }) (go next.notes))
-          rest.leads));
-      events = rest.events ∙ append_assoc m.events (Reached m.node point ∷ []) rest.heard;
-    }
-run_leads entries detects m point (Group ids ∷ items) counts stays = absurd stays.0
+module _ (tree : TreeModel) (loaded : Words) (halts : ℕ) (domain : Domain) (body : Body) (counts base : Counts) (begun : Words) (P : Type 0) where
+  -- the words are those of the first items, where nothing was noted
+  abbrev pub WordsAre : FieldModel → ℕ → Type 0
+  WordsAre m point =
+      m.notes ≡ no_kinds → P → SameWords (in_entries domain.entries) m.words (meaning_of_first point body begun)
 
--- the last events of a domain follow what leads to them
-last_leads : (e : List Event) (t u : Told TryEnd) (last : List Event) (end : NodeEnd) → Leads e t u
-    → Leads e (after t.past (told (only_events last) t.counts end)) (after u.past (told (only_events last) u.counts end))
-last_leads e t u last end leads = record {
-  heard = ap (λ (es : List Event). es ++ last) leads.heard ∙ append_assoc e u.past.events last;
-  counts = leads.counts;
-  answer = refl;
-}
+  -- the counts of all domains but the one in hand are these
+  abbrev pub OthersStay : ℕ → Counts → Type 0
+  OthersStay own now = (n : ℕ) → (n == own) ≡ false → now n ≡ base n
 
-ended_leads : (e : List Event) (id : NodeId) (domain : Domain) (t u : Told TryEnd) (end : TryEnd) → Leads e t u
-    → Leads e (ended id domain t end) (ended id domain u end)
-ended_leads e id domain t u (Passed leak) leads = last_leads e t u (Complete id ∷ []) (Done leak) leads
-ended_leads e id domain t u (Failed cause) leads =
-    last_leads e t u (escalation id domain (is_none domain.parent)) (Escalated cause no_kinds) leads
-ended_leads e id domain t u (Broken cause over) leads =
-    last_leads e t u (escalation id domain (is_none domain.parent)) (Escalated cause over) leads
+  -- a try before its arrival at a point: what was told so far, how many tries are to spare, the body from there on, the counts
+  pub record Before (m : FieldModel) (attempt point : ℕ) (past : Past) (spare : ℕ) (rest : Body) (now : Counts) : Type 0 where
+    pub front : front_of_node (case_on halts m) (node m.node domain body) counts attempt point
+        ≡ Some (after past (arrives (case_on halts m) spare rest (try_on domain m) point m.notes now))
+    pub legal : Legal tree loaded m.events past.events
+    pub behind : body_behind point body ≡ rest
+    pub others : OthersStay m.node.0 now
+    pub words : WordsAre m point
 
-failed_leads : (e : List Event) (id : NodeId) (domain : Domain) (t u : Told TryEnd) (end : TryEnd) (next : Counts → Told NodeEnd) → Leads e t u
-    → Leads e (unless_failed id domain t end next) (unless_failed id domain u end next)
-failed_leads e id domain t u (Passed leak) next leads = ended_leads e id domain t u (Passed leak) leads
-failed_leads e id domain t u (Failed cause) next leads = record {
-  heard = ap (λ (c : Counts). t.past.events ++ (next c).past.events) leads.counts
-      ∙ ap (λ (es : List Event). es ++ (next u.counts).past.events) leads.heard
-      ∙ append_assoc e u.past.events (next u.counts).past.events;
-  counts = ap (λ (c : Counts). (next c).counts) leads.counts;
-  answer = ap (λ (c : Counts). (next c).answer) leads.counts;
-}
-failed_leads e id domain t u (Broken cause over) next leads = ended_leads e id domain t u (Broken cause over) leads
+  -- the front at which a try stands
+  abbrev pub front_on : FieldModel → ℕ → Past → ℕ → ℕ → Body → Counts → Told Front
+  front_on m point past spare kinds rest now =
+      told past now (record { spare = spare; stand = record { trying = try_on domain m; point = point; kinds = kinds; notes = m.notes; rest = rest } })
 
--- what a part of a try leads to, the tries that follow it lead to as well
-pub tries_lead : (e : List Event) (spare : ℕ) (id : NodeId) (domain : Domain) (again : Counts → Told TryEnd) (t u : Told TryEnd) → Leads e t u
-    → Leads e (tries spare id domain again t) (tries spare id domain again u)
-tries_lead e zero id domain again t u leads =
-    let P : TryEnd → Type 0 = λ end. Leads e (ended id domain t end) (ended id domain u u.answer) in
-    subst P (sym leads.answer) (ended_leads e id domain t u u.answer leads)
-tries_lead e (suc spare) id domain again t u leads =
-    let next : Counts → Told NodeEnd = λ now. tries spare id domain again (again now) in
-    let P : TryEnd → Type 0 = λ end. Leads e (unless_failed id domain t end next) (unless_failed id domain u u.answer next) in
-    subst P (sym leads.answer) (failed_leads e id domain t u u.answer next leads)
+  -- a try that has arrived at a point
+  pub record At (m : FieldModel) (attempt point : ℕ) (past : Past) (spare kinds : ℕ) (rest : Body) (now : Counts) : Type 0 where
+    pub front : front_of_node (case_on halts m) (node m.node domain body) counts attempt point ≡ Some (front_on m point past spare kinds rest now)
+    pub legal : Legal tree loaded m.events past.events
+    pub behind : body_behind point body ≡ rest
+    pub others : OthersStay m.node.0 now
+    pub words : WordsAre m point
 
--- a judgement tells what was found
-pub detected_leads : (h : Try) (notes : ℕ) (counts : Counts)
-    → Leads (Found h.node (bit_and notes h.detects) ∷ []) (detected h notes counts)
-    (told silence counts (judged h.node notes (bit_and notes h.detects) (bit_and notes h.detects == no_kinds)))
-detected_leads h notes counts = record { heard = refl; counts = refl; answer = refl }
+  -- it arrives
+  pub arriving : LegalPieces → (m : FieldModel) (attempt point : ℕ) (past : Past) (spare : ℕ) (rest : Body) (now : Counts)
+      → (kinds_of (hits_at m point) ≡ no_kinds → hits_at m point ≡ [])
+      → Before m attempt point past spare rest now
+      → At (reached_point m point) attempt point (joined past (arrival (case_on halts m) (try_on domain m) point)) spare
+      (kinds_of (hits_at m point)) rest now
+  arriving pieces m attempt point past spare rest now quiet b = record {
+    front = b.front;
+    legal = pieces tree loaded m.events past.events (Reached m.node point ∷ []) (Reached m.node point ∷ []) b.legal
+        (same (Reached m.node point) [] [] tt nothing);
+    behind = b.behind;
+    others = b.others;
+    words = λ none p.
+        let hits : hits_at m point ≡ [] = quiet (none_right m.notes (kinds_of (hits_at m point)) none) in
+        let Q : List Fault → Type 0 = λ fs. SameWords (in_entries domain.entries) (words_struck fs m.words) (meaning_of_first point body begun) in
+        subst Q (sym hits) (b.words (none_left m.notes (kinds_of (hits_at m point)) none) p);
+  }
 
--- the machine that is ready for a try
-abbrev pub ready_machine : FieldModel → List Event → ℕ → FieldModel
-ready_machine was events begin = record was { events = events; node = root_id; begin = begin; notes = no_kinds }
+  -- behind an operation it comes before the next point
+  pub stepping : NextPointIsThere → RunComesNext → OneItemLess → OperationsActLocally
+      → (m : FieldModel) (attempt point : ℕ) (past : Past) (spare kinds : ℕ) (op : Op) (rest : Body) (now : Counts)
+      → ItemStays domain.entries (Run op) → (bit_and kinds halts == no_kinds) ≡ true
+      → At m attempt point past spare kinds (run op rest) now
+      → Before (computed m op) attempt (suc point) past spare rest now
+  stepping points comes less keeps m attempt point past spare kinds op rest now stays quiet a = record {
+    front = points (case_on halts m) (node m.node domain body) counts attempt point
+        ∙ ap (λ (f : Option (Told Front)). option_and_then (next_point (case_on halts m)) f) a.front
+        ∙ ap (λ (b : Bool). where_none b past (Some (arrives (case_on halts m) spare rest (try_on domain m) (suc point) m.notes now))) quiet;
+    legal = a.legal;
+    behind = less point body ∙ ap (λ (b : Body). body_behind 1 b) a.behind;
+    others = a.others;
+    words = λ none p q h.
+        keeps.agreement op (in_entries domain.entries) m.words (meaning_of_first point body begun) stays.1
+        (λ r i. stays.2 r (or_right (in_range (op_writes op) r) (in_ranges (op_reads op) r) i)) (a.words none p) q
+        (or_left (in_entries domain.entries q) (in_range (op_writes op) q) h)
+        ∙ ap (λ (w : Words). w q) (comes point body op rest begun a.behind);
+  }
 
-tried_exactly : (domain : Domain) (was : FieldModel) (events : List Event) (begin spare : ℕ)
-    → CanRun domain.entries (ready_machine was events begin) → StaysWithin domain.entries domain.items
-    → IsReady domain was (ready_machine was events begin) spare
-    → IsTried domain was (tried (ready_machine was events begin) domain) spare
-    (bit_and (run_from (ready_machine was events begin) 0 domain.items).notes domain.detects)
-tried_exactly domain was events begin spare runs stays ready =
-    let m : FieldModel = ready_machine was events begin in
-    let ran : FieldModel = run_from m 0 domain.items in
-    let found : ℕ = bit_and ran.notes domain.detects in
-    let follows : RunLeads domain.detects m 0 domain.items ready.counts = run_leads domain.entries domain.detects m 0 domain.items ready.counts stays in
-    let frame : ran ≡ record m { words = ran.words; events = ran.events; notes = ran.notes } = run_frame m 0 domain.items in
-    let h : Try = root_try domain begin in
-    let last : Told TryEnd = told silence ready.counts (judged root_id ran.notes found (found == no_kinds)) in
-    let whole : Leads (follows.heard ++ Found root_id found ∷ []) (read_points (quiet_case was.script) (plain_body domain) h 0 no_kinds ready.counts) last =
-    leads_on follows.heard (Found root_id found ∷ []) _ _ _ follows.leads (detected_leads h ran.notes ready.counts) in
-    let all : Leads (events ++ (follows.heard ++ Found root_id found ∷ [])) (root_reading was.script domain)
-    (tries spare root_id domain (root_again was.script domain) last) =
-    leads_on events _ _ _ _ ready.leads (tries_lead _ spare root_id domain (root_again was.script domain) _ _ whole) in
-    let heard : (tried m domain).events ≡ events ++ (follows.heard ++ Found root_id found ∷ []) =
-    ap (λ (id : NodeId). ran.events ++ Found id found ∷ []) (ap (λ (v : FieldModel). v.node) frame)
-    ∙ ap (λ (es : List Event). es ++ Found root_id found ∷ []) follows.events
-    ∙ append_assoc events follows.heard (Found root_id found ∷ []) in
-    let P : List Event → Type 0 = λ es. Leads es (root_reading was.script domain) (tries spare root_id domain (root_again was.script domain) last) in
-    record {
-      counts = ready.counts;
-      begin = ready.begin ∙ sym (ap (λ (v : FieldModel). v.begin) frame);
-      leads = subst P (sym heard) all;
-      machine = ap (λ (v : FieldModel). record v { events = (tried m domain).events }) frame
-          ∙ ap (λ (b : ℕ). record was { words = ran.words; events = (tried m domain).events; node = root_id; begin = b; notes = ran.notes })
-          (sym (ap (λ (v : FieldModel). v.begin) frame));
-      outside = λ p out. run-outside domain.entries m 0 domain.items p out runs stays;
-      known = λ p h. ((runs_through domain.entries m 0 domain.items runs).present p h).known;
-      meant = λ none. run_meant domain.entries (λ id. None) m 0 domain.items runs stays none;
-    }
+  -- where the points of a try came to
+  abbrev pub CameTo : Arrival → FieldModel → ℕ → Body → Type 0
+  CameTo (at.Group k) m point rest = (point ≡ k) × (is_quiet halts m ≡ true) × ((members : Members) × (more : Body) × (rest ≡ group members more))
+  CameTo at.Halt m point rest = is_quiet halts m ≡ false
+  CameTo at.End m point rest = (is_quiet halts m ≡ true) × (rest ≡ stop)
 
--- a machine that is ready, and the try that it makes
-pub tried_from_ready : (domain : Domain) (was m : FieldModel) (spare : ℕ)
-    → CanRun domain.entries m → StaysWithin domain.entries domain.items → IsReady domain was m spare
-    → IsTried domain was (tried m domain) spare (bit_and (run_from m 0 domain.items).notes domain.detects)
-tried_from_ready domain was m spare runs stays ready =
-    let P : FieldModel → Type 0 = λ v.
-    CanRun domain.entries v → IsReady domain was v spare
-    → IsTried domain was (tried v domain) spare (bit_and (run_from v 0 domain.items).notes domain.detects) in
-    subst P (sym ready.machine) (λ r i. tried_exactly domain was m.events m.begin spare r stays i) runs ready
+  pub record Came (attempt spare : ℕ) (r : Ran) : Type 0 where
+    pub point : ℕ
+    pub past : Past
+    pub kinds : ℕ
+    pub rest : Body
+    pub now : Counts
+    pub stands : At r.field attempt point past spare kinds rest now
+    pub by : CameTo r.arrival r.field point rest
 
--- the machine behind a try
-abbrev pub tried_machine : FieldModel → Words → List Event → ℕ → ℕ → FieldModel
-tried_machine was words events begin notes =
-    record was { words = words; events = events; node = root_id; begin = begin; notes = notes }
+  came_where : (attempt spare : ℕ) (b : Bool) (m : FieldModel) (next : FieldModel → Ran)
+      → (b ≡ true → Came attempt spare (next m)) → (b ≡ false → Came attempt spare (run_ends m at.Halt))
+      → Came attempt spare (where_quiet b m next)
+  came_where attempt spare true m next goes halts = goes refl
+  came_where attempt spare false m next goes halts = halts refl
 
-restarted_exactly : (domain : Domain) (was : FieldModel) (words : Words) (events : List Event) (begin notes found spare : ℕ)
-    → ((p : Place) → in_entries domain.entries p ≡ true → IsPresent was p)
-    → (found == no_kinds) ≡ false
-    → IsTried domain was (tried_machine was words events begin notes) (suc spare) found
-    → IsReady domain was (restarted (tried_machine was words events begin notes) domain (copies_of was.words domain.entries) (begin + 1)) spare
-restarted_exactly domain was words events begin notes found spare present some behind =
-    let m : FieldModel = begun (tried_machine was words events begin notes) root_id (begin + 1) in
-    let copies : List (List ℕ) = copies_of was.words domain.entries in
-    let now : FieldModel = restored_from m 0 domain.entries copies in
-    let frame : now ≡ record m { words = now.words; lost = now.lost; events = now.events } = restored-frame m 0 domain.entries copies in
-    let events_are : now.events ≡ (events ++ Begin root_id (begin + 1) ∷ []) ++ refilled_from root_id 0 domain.entries =
-    restored-events m 0 domain.entries copies (copies_fit was.words domain.entries) in
-    let words_are : now.words ≡ was.words = fun_ext (λ p. restored-words was.words m 0 domain.entries p
-    (λ h. (present p h).known) (λ out. behind.outside p out)) in
-    let lost_is : now.lost ≡ was.lost = fun_ext (λ p. restored-lost m 0 domain.entries copies p (copies_fit was.words domain.entries) (λ h. (present p h).here)) in
-    let again : Counts → Told TryEnd = root_again was.script domain in
-    let next : Counts → Told NodeEnd = λ counts. tries spare root_id domain again (again counts) in
-    let points : Told TryEnd = read_points (quiet_case was.script) (plain_body domain) (root_try domain (behind.counts 0 + 1)) 0 no_kinds (counted 0 behind.counts) in
-    let heard : List Event = Begin root_id (behind.counts 0 + 1) ∷ refilled_from root_id 0 domain.entries in
-    let judged_failed : judged root_id notes found (found == no_kinds) ≡ Failed (record { node = root_id; kinds = found }) =
-    ap (λ (b : Bool). judged root_id notes found b) some in
-    let failed : TryEnd = Failed (record { node = root_id; kinds = found }) in
-    let over : Leads heard (tries (suc spare) root_id domain again (told silence behind.counts failed)) (tries spare root_id domain again points) =
-    leads_on [] heard (tries (suc spare) root_id domain again (told silence behind.counts failed)) (next behind.counts) (tries spare root_id domain again points)
-    (leads_after (record { events = []; repeats = 0 + 1; strikes = 0 }) (next behind.counts))
-    (tries_lead heard spare root_id domain again (again behind.counts) points (leads_after (only_events heard) points)) in
-    let P : TryEnd → Type 0 = λ end. Leads events (root_reading was.script domain) (tries (suc spare) root_id domain again (told silence behind.counts end)) in
-    let all : Leads (events ++ heard) (root_reading was.script domain) (tries spare root_id domain again points) =
-    leads_on events heard (root_reading was.script domain) (tries (suc spare) root_id domain again (told silence behind.counts failed))
-    (tries spare root_id domain again points) (subst P judged_failed behind.leads) over in
-    let begin_is : behind.counts 0 + 1 ≡ now.begin = ap (λ (n : ℕ). n + 1) behind.begin ∙ sym (ap (λ (v : FieldModel). v.begin) frame) in
-    let heard_is : events ++ heard ≡ now.events =
-    ap (λ (n : ℕ). events ++ (Begin root_id (n + 1) ∷ refilled_from root_id 0 domain.entries)) behind.begin
-    ∙ sym (append_assoc events (Begin root_id (begin + 1) ∷ []) (refilled_from root_id 0 domain.entries))
-    ∙ sym events_are in
-    let Q : List Event → Type 0 = λ es. Leads es (root_reading was.script domain) (tries spare root_id domain again points) in
-    let R : ℕ → Type 0 = λ n. Leads now.events (root_reading was.script domain)
-    (tries spare root_id domain again (read_points (quiet_case was.script) (plain_body domain) (root_try domain n) 0 no_kinds (counted 0 behind.counts))) in
-    record {
-      counts = counted 0 behind.counts;
-      begin = begin_is;
-      leads = subst R begin_is (subst Q heard_is all);
-      machine = frame
-          ∙ ap (λ (w : Words). record was { words = w; lost = now.lost; events = now.events; node = root_id; begin = begin + 1; notes = no_kinds }) words_are
-          ∙ ap (λ (l : PlaceSet). record was { lost = l; events = now.events; node = root_id; begin = begin + 1; notes = no_kinds }) lost_is
-          ∙ ap (λ (b : ℕ). record was { events = now.events; node = root_id; begin = b; notes = no_kinds }) (sym (ap (λ (v : FieldModel). v.begin) frame));
-    }
-
--- behind a try that failed, a later try can begin
-pub ready_again : (domain : Domain) (was m : FieldModel) (found spare : ℕ)
-    → ((p : Place) → in_entries domain.entries p ≡ true → IsPresent was p)
-    → (found == no_kinds) ≡ false
-    → IsTried domain was m (suc spare) found
-    → IsReady domain was (restarted m domain (copies_of was.words domain.entries) (m.begin + 1)) spare
-ready_again domain was m found spare present some behind =
-    let P : FieldModel → Type 0 = λ v. IsTried domain was v (suc spare) found
-    → IsReady domain was (restarted v domain (copies_of was.words domain.entries) (v.begin + 1)) spare in
-    subst P (sym behind.machine) (λ b. restarted_exactly domain was m.words m.events m.begin m.notes found spare present some b) behind
+  -- a try that stands before a point comes to a front of the reading, and stops there for its reason
+  pub running : LegalPieces → NextPointIsThere → FrontsStand → RunComesNext → OneItemLess → OperationsActLocally
+      → (find : NodeId → Option Node) (m : FieldModel) (attempt point : ℕ) (past : Past) (spare : ℕ) (items : List Item) (now : Counts)
+      → StrikesWithin m.node domain.entries m.script → All (ItemStays domain.entries) items
+      → Before m attempt point past spare (body_by find items) now
+      → Came attempt spare (run_to halts m point items)
+  running pieces points stand comes less keeps find m attempt point past spare [] now strikes stays b =
+      let r : FieldModel = reached_point m point in
+      let told_more : Past = joined past (arrival (case_on halts m) (try_on domain m) point) in
+      let a : At r attempt point told_more spare (kinds_of (hits_at m point)) (body_by find []) now =
+      arriving pieces m attempt point past spare (body_by find []) now (quiet_hits domain.entries m point strikes) b in
+      came_where attempt spare (is_quiet halts r) r (λ now. run_ends now at.End)
+      (λ q. record { point = point; past = told_more; kinds = kinds_of (hits_at m point); rest = stop; now = now; stands = a; by = (q, refl) })
+      (λ q. record { point = point; past = told_more; kinds = kinds_of (hits_at m point); rest = stop; now = now; stands = a; by = q })
+  running pieces points stand comes less keeps find m attempt point past spare (Run op ∷ items) now strikes stays b =
+      let r : FieldModel = reached_point m point in
+      let rest : Body = body_by find items in
+      let told_more : Past = joined past (arrival (case_on halts m) (try_on domain m) point) in
+      let a : At r attempt point told_more spare (kinds_of (hits_at m point)) (run op rest) now =
+      arriving pieces m attempt point past spare (run op rest) now (quiet_hits domain.entries m point strikes) b in
+      let noted : bit_and r.notes halts ≡ bit_and (kinds_of (hits_at m point)) halts =
+      (stand (case_on halts m) m.node domain body counts attempt point _ a.front).notes in
+      came_where attempt spare (is_quiet halts r) r (λ now. run_to halts (computed now op) (suc point) items)
+      (λ q. running pieces points stand comes less keeps find (computed r op) attempt (suc point) told_more spare items now strikes
+      (λ k d short. stays (suc k) d (omega (arith, short)))
+      (stepping points comes less keeps r attempt point told_more spare (kinds_of (hits_at m point)) op rest now
+      (stays 0 (Run op) (omega arith)) (sym (ap (λ (n : ℕ). n == no_kinds) noted) ∙ q) a))
+      (λ q. record { point = point; past = told_more; kinds = kinds_of (hits_at m point); rest = run op rest; now = now; stands = a; by = q })
+  running pieces points stand comes less keeps find m attempt point past spare (Group ids ∷ items) now strikes stays b =
+      let r : FieldModel = reached_point m point in
+      let rest : Body = body_by find items in
+      let told_more : Past = joined past (arrival (case_on halts m) (try_on domain m) point) in
+      let a : At r attempt point told_more spare (kinds_of (hits_at m point)) (group (members_by find ids) rest) now =
+      arriving pieces m attempt point past spare (group (members_by find ids) rest) now (quiet_hits domain.entries m point strikes) b in
+      came_where attempt spare (is_quiet halts r) r (λ now. run_ends now (at.Group point))
+      (λ q. record {
+        point = point;
+        past = told_more;
+        kinds = kinds_of (hits_at m point);
+        rest = group (members_by find ids) rest;
+        now = now;
+        stands = a;
+        by = (refl, q, (members_by find ids, rest, refl));
+      })
+      (λ q. record { point = point; past = told_more; kinds = kinds_of (hits_at m point); rest = group (members_by find ids) rest; now = now; stands = a; by = q })

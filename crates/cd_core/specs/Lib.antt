@@ -1,2 +1,12 @@
-pub mod Single
-pub mod Copies
+pub mod StateModel
+pub mod Fits
+pub mod Tasks
+pub mod Stands
+pub mod Asks
+pub mod Advancing
+pub mod Resuming
+pub mod Steps
+pub mod Trying
+pub mod StateLaws
+pub mod LawsBelow
+pub mod TakingBack

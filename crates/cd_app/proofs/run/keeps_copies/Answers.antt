@@ -1,7 +1,7 @@
 use Rattle.std.proofs.Common.{◌≡◌, ◌↔◌, List, All, subst, sym}
 use Rattle.cd_tree.specs.declared.domain.Entry.{Entry}
 use Rattle.cd_tree.specs.declared.domain.How.TheVariants as kept
-use Rattle.cd_core.specs.Single.{OnlyCopies}
+use Rattle.cd_single.specs.Single.{OnlyCopies}
 use Rattle.cd_app.proofs.RunLemmas.{only_root}
 use Rattle.cd_app.proofs.run.keeps_copies.Goals as goal
 

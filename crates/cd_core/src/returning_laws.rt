@@ -1,0 +1,28 @@
+//! Laws of members that come back: the domain that waited for them stands after its group.
+ghost use Rattle.cd_core.specs.StateLaws.{ResumingStands};
+
+use crate::laws_below::laws_below;
+use crate::taking_laws::resuming_fits;
+use cd_cover::laws as plan_laws;
+use cd_tree::laws as tree_laws;
+
+/// A domain that stands waiting stands after its members have come back, each as it was asked for.
+pub fn resuming_stands()
+    ensures { ResumingStands }
+{
+    laws_below();
+    resuming_fits();
+    tree_laws::readings_know_their_own_counts();
+    tree_laws::members_are_read_each_by_itself();
+    tree_laws::subtrees_are_slices();
+    tree_laws::children_stand_once();
+    tree_laws::a_body_follows_its_items();
+    tree_laws::a_domain_sees_what_it_reads_alone();
+    tree_laws::each_domain_is_as_its_program();
+    tree_laws::members_are_as_their_domain();
+    tree_laws::members_give_what_a_domain_goes_on_with();
+    plan_laws::links_lead_to_what_is_kept();
+    plan_laws::outer_references_of_members();
+    plan_laws::members_find_what_their_links_keep();
+    plan_laws::subtrees_are_seen_on_paths();
+}
