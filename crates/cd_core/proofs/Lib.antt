@@ -7,7 +7,6 @@ pub mod Tries
 pub mod Ends
 mod Choices
 mod Strikes
-mod Following
 mod Trying
 mod Judging
 mod Retrying
