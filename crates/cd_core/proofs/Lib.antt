@@ -1,12 +1,6 @@
-pub mod Copying
-pub mod Points
-pub mod Frames
-pub mod Restoring
-pub mod Following
-pub mod Tries
-pub mod Ends
 mod Choices
 mod Strikes
+mod Following
 mod Trying
 mod Judging
 mod Retrying
@@ -62,3 +56,5 @@ mod Apartness
 mod SentFit
 mod Sends
 mod Moving
+mod WorkedStates
+mod WorkedReturns
