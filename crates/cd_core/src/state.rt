@@ -1,3 +1,4 @@
+// A domain at rest: its stage, what it keeps, its machine and its pass.
 ghost use Rattle.std.specs.Prelude.{◌≡◌, MatchOption};
 ghost use Rattle.cd_core.specs.declared.state.Stage.TheVariants.{Ended};
 ghost use Rattle.cd_core.specs.Steps.{IsEnded, IsOutcome};

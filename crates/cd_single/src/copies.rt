@@ -1,3 +1,4 @@
+// The copies of the entries of a domain: taken at its first try, put back at a later one.
 ghost use Rattle.std.specs.Prelude.{◌≡◌, ◌++◌, ◌<◌, ◌^◌, true, IfOk, OnOk, All, IsSome, length};
 ghost use Rattle.cd_tree.specs.Meaning.{in_entries};
 ghost use Rattle.cd_tree.specs.Operations.{IsFull, length_of};

@@ -1,3 +1,4 @@
+// The run of a program of one domain: its tries, their points, and its end.
 ghost use Rattle.std.specs.Prelude.{◌≡◌, ◌+◌, ◌-◌, ◌≤◌, ◌<◌, ℕ, [], ◌∷◌, true, length, IfSome, IfOk, OnOk, All, IsSome, bit_and};
 ghost use Rattle.cd_tree.specs.declared.domain.How.TheVariants as how;
 ghost use Rattle.cd_tree.specs.KindSets.{no_kinds};
