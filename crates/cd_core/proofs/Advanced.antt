@@ -26,12 +26,9 @@ use Rattle.cd_core.specs.Steps.{AdvancesBy, AllFit, CanMove, FitsBehind, StandsB
 use Rattle.cd_core.specs.Tasks.{Task}
 use Rattle.cd_core.specs.Trying.{FitsTried, TriedFrom}
 use Rattle.cd_core.specs.LawsBelow.{MoreLaws}
-use Rattle.cd_core.proofs.Commons.{Common, common}
-use Rattle.cd_core.proofs.EndsStand.{ends_stand}
+use Rattle.cd_core.proofs.Commons.{Common}
+use Rattle.cd_core.proofs.EndsStand.{common_of, ends_stand}
 use Rattle.cd_core.proofs.Grounds.{view_in}
-use Rattle.cd_core.proofs.ReadyOnes.{task_at}
-use Rattle.cd_core.proofs.Standing.{task_is}
-use Rattle.cd_core.proofs.Views.{FitsView, fits_view}
 
 -- ---- exactly
 
@@ -140,13 +137,7 @@ stands_apart : MoreLaws → (plan : PlanModel) (t : Task) (s : StateModel) (doma
     → IsPlan plan → Stands plan t s → slice_get plan.tree.domains s.node.0 ≡ Some domain → TriesSo plan domain s keeps q j s.stage
     → StandsApart plan t (state_sending s keeps j.begin j.field q)
 stands_apart l plan t s domain keeps q j is_plan st listed so =
-    let e : t ≡ task_at plan s domain t.loaded t.words t.counts t.links = task_is l plan t s domain is_plan listed st in
-    let S : Task → Type 0 = λ x. Stands plan x s in
-    let K : Task → Type 0 = λ x. Common plan x s q j in
-    let st_at : Stands plan (task_at plan s domain t.loaded t.words t.counts t.links) s = subst S e st in
-    let view : FitsView plan s domain = fits_view l.follows plan s domain is_plan listed st.fits in
-    let c : Common plan t s q j =
-    subst K (sym e) (common l plan s domain is_plan listed t.loaded t.words t.counts t.links view st_at keeps q j s.stage view.stage st_at.stage so) in
+    let c : Common plan t s q j = common_of l plan t s domain keeps q j is_plan st listed so in
     let C : List Range → Type 0 = λ rs. (p : Place) → in_ranges rs p ≡ node_writes t.domain p in
     record {
       domain = st.domain;

@@ -96,6 +96,17 @@ left_as plan domain s keeps q begin m (Escalates cause over) ending e =
       known = (given_up q (all_ids keeps)).1;
     }
 
+-- what stays of a state that stands, whatever its tries come to
+pub common_of : MoreLaws → (plan : PlanModel) (t : Task) (s : StateModel) (domain : Domain) (keeps : List Keep) (q : PassModel) (j : Judged)
+    → IsPlan plan → Stands plan t s → slice_get plan.tree.domains s.node.0 ≡ Some domain → TriesSo plan domain s keeps q j s.stage → Common plan t s q j
+common_of l plan t s domain keeps q j is_plan st listed so =
+    let e : t ≡ task_at plan s domain t.loaded t.words t.counts t.links = task_is l plan t s domain is_plan listed st in
+    let S : Task → Type 0 = λ x. Stands plan x s in
+    let K : Task → Type 0 = λ x. Common plan x s q j in
+    let st_at : Stands plan (task_at plan s domain t.loaded t.words t.counts t.links) s = subst S e st in
+    let view : FitsView plan s domain = fits_view l.follows plan s domain is_plan listed st.fits in
+    subst K (sym e) (common l plan s domain is_plan listed t.loaded t.words t.counts t.links view st_at keeps q j s.stage view.stage st_at.stage so)
+
 -- a state that stood stands arrived where its tries come to an end
 pub ends_stand : MoreLaws → (plan : PlanModel) (t : Task) (s : StateModel) (domain : Domain) (keeps : List Keep) (q : PassModel) (j : Judged) (ending : Ending)
     → IsPlan plan → Stands plan t s → slice_get plan.tree.domains s.node.0 ≡ Some domain
@@ -105,13 +116,7 @@ pub ends_stand : MoreLaws → (plan : PlanModel) (t : Task) (s : StateModel) (do
 ends_stand l plan t s domain keeps q j ending is_plan st listed so verdict fits =
     let new : StateModel = state_behind plan domain s keeps q j.begin j.field j.verdict in
     let left : LeftAs plan s q j.field new ending = left_as plan domain s keeps q j.begin j.field j.verdict ending verdict in
-    let e : t ≡ task_at plan s domain t.loaded t.words t.counts t.links = task_is l plan t s domain is_plan listed st in
-    let S : Task → Type 0 = λ x. Stands plan x s in
-    let K : Task → Type 0 = λ x. Common plan x s q j in
-    let st_at : Stands plan (task_at plan s domain t.loaded t.words t.counts t.links) s = subst S e st in
-    let view : FitsView plan s domain = fits_view l.follows plan s domain is_plan listed st.fits in
-    let c : Common plan t s q j =
-    subst K (sym e) (common l plan s domain is_plan listed t.loaded t.words t.counts t.links view st_at keeps q j s.stage view.stage st_at.stage so) in
+    let c : Common plan t s q j = common_of l plan t s domain keeps q j is_plan st listed so in
     let arrived : StandsArrived plan t new ending = tries_end l plan t s domain keeps q j ending is_plan st listed so verdict in
     let A : Stage → Type 0 = λ x. StandsAt plan t new x in
     let C : List Range → Type 0 = λ rs. (p : Place) → in_ranges rs p ≡ node_writes t.domain p in

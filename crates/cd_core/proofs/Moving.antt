@@ -11,12 +11,14 @@ use Rattle.cd_tree.proofs.View.{domain_fits}
 use Rattle.cd_cover.specs.Plans.{PlanModel, IsPlan}
 use Rattle.cd_tries.specs.Fitting.{HasWords}
 use Rattle.cd_core.specs.declared.verdict.Verdict.{Verdict}
+use Rattle.cd_core.specs.declared.verdict.Verdict.TheVariants.{Waits}
+use Rattle.cd_core.specs.Advancing.{members_at}
 use Rattle.cd_core.specs.Fits.{Fits}
 use Rattle.cd_core.specs.LawsBelow.{MoreLaws}
-use Rattle.cd_core.specs.StateLaws.{TriesFit}
+use Rattle.cd_core.specs.StateLaws.{GroupsCanBeSent, TriesFit}
 use Rattle.cd_core.specs.StateModel.{StateModel}
 use Rattle.cd_core.specs.Steps.{Advances, AdvancesBy, CanMove, StepModel, ends_done, ends_escalated, no_memory, sends}
-use Rattle.cd_core.specs.Trying.{FitsTried, TriedFrom}
+use Rattle.cd_core.specs.Trying.{AreBelow, CanSendAll, FitsTried, TriedFrom}
 use Rattle.cd_core.proofs.Facts.{reach_is}
 use Rattle.cd_core.proofs.Grounds.{view_in}
 
@@ -50,3 +52,13 @@ pub few_entries : (plan : PlanModel) (id : NodeId) (domain : Domain) → IsPlan 
 few_entries plan id domain is_plan listed =
     let few : length domain.entries ≤ entries_limit = (domain_fits plan.tree is_plan.program id domain listed).entries in
     omega (arith, few)
+
+-- the members of the group at which a domain has come can be sent
+pub can_send : GroupsCanBeSent → (plan : PlanModel) (s : StateModel) (domain : Domain) (verdict : Verdict) (spare point : ℕ) (ids : List NodeId)
+    → IsPlan plan → slice_get plan.tree.domains s.node.0 ≡ Some domain → FitsTried plan (view_in plan.tree s.node domain) domain s verdict
+    → verdict ≡ Waits spare point → ids ≡ members_at domain point → AreBelow plan s ids × CanSendAll plan ids s.field s.pass
+can_send send plan s domain verdict spare point ids is_plan listed fits waits named =
+    let d : Node = view_in plan.tree s.node domain in
+    let P : Verdict → Type 0 = λ v. FitsTried plan d domain s v in
+    let A : List NodeId → Type 0 = λ xs. AreBelow plan s xs × CanSendAll plan xs s.field s.pass in
+    subst A (sym named) (send plan s d domain spare point is_plan listed (subst P waits fits))

@@ -1,4 +1,4 @@
--- The faults that strike at a point: they strike in the entries, and each leaves a note.
+-- The faults that strike at a point each leave a note.
 use Rattle.std.proofs.Common.{◌≡◌, ℕ, suc, ◌<◌, ◌^◌, true, nat_lt, ◌&&◌, ◌==◌, List, [], ◌∷◌, get_or, All, arith, refl, sym, ◌∙◌, bit_or}
 use Rattle.std.specs.Int.Bits.{or_add_and}
 use Rattle.std.proofs.lemmas.Nat.{and_le_r, pow_pos}
@@ -13,20 +13,8 @@ use Rattle.cd_tree.specs.Meaning.{in_entries}
 use Rattle.cd_tree.specs.Scripts.{strikes_at, kinds_of}
 use Rattle.cd_field.specs.FieldModel.{FieldModel, hits_at}
 use Rattle.cd_tries.specs.Fitting.{StrikesWithin}
+use Rattle.cd_tries.proofs.Pointing.{hits_within}
 use Rattle.cd_core.proofs.Choices.{chosen}
-
--- the faults that strike at a point strike in the entries, and have kinds
-pub hits_within : (entries : List Entry) (m : FieldModel) (point : ℕ) → StrikesWithin m.node entries m.script
-    → All (λ (fault : Fault). (in_entries entries fault.place ≡ true) × (fault.kind.0 < 16)) (hits_at m point)
-hits_within entries m point strikes k d short =
-    let fault : Fault = get_or (hits_at m point) k d in
-    let passes : strikes_at m.node m.begin point fault ≡ true =
-    filter_passes (strikes_at m.node m.begin point) m.script k d short in
-    let parts : (((fault.node.0 == m.node.0) && (fault.begin == m.begin)) ≡ true) × ((fault.item == point) ≡ true) = and_parts _ _ passes in
-    let both : ((fault.node.0 == m.node.0) ≡ true) × ((fault.begin == m.begin) ≡ true) = and_parts _ _ parts.0 in
-    All-filter (strikes_at m.node m.begin point)
-    (λ (f : Fault). f.node.0 ≡ m.node.0 → (in_entries entries f.place ≡ true) × (f.kind.0 < 16)) m.script strikes k d short
-    (eqb-true _ _ both.0)
 
 kind_is_some : (kind : Kind) → kind.0 < 16 → only_kind kind ≡ 0 → ⊥
 kind_is_some kind small none =
@@ -46,4 +34,4 @@ no_kinds-no_faults (fault ∷ faults) kinds none =
 pub quiet_hits : (entries : List Entry) (m : FieldModel) (point : ℕ) → StrikesWithin m.node entries m.script
     → kinds_of (hits_at m point) ≡ 0 → hits_at m point ≡ []
 quiet_hits entries m point strikes none =
-    no_kinds-no_faults (hits_at m point) (λ k d short. (hits_within entries m point strikes k d short).1) none
+    no_kinds-no_faults (hits_at m point) (λ k d short. (hits_within m.node entries m point refl strikes k d short).1) none

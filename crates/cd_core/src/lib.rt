@@ -7,7 +7,6 @@ pub mod advancing_laws;
 pub mod asking_laws;
 mod ending;
 mod laws_below;
-mod path;
 mod resume;
 pub mod returning_laws;
 mod sending;

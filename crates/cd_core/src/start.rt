@@ -1,12 +1,7 @@
 // The state with which the root is started.
-ghost use Rattle.std.specs.Prelude.{◌≡◌, ◌≤◌, [], All, IfOk, length};
-ghost use Rattle.cd_base.specs.Words.{in_ranges};
-ghost use Rattle.cd_tree.specs.Domains.{root_of};
-ghost use Rattle.cd_tree.specs.KindSets.{no_kinds};
-ghost use Rattle.cd_tree.specs.Meaning.{node_need, node_writes};
-ghost use Rattle.cd_tree.specs.Scripts.{IsAccepted};
-ghost use Rattle.cd_keep.specs.PassModel.{HoldsNothing};
-ghost use Rattle.cd_core.specs.Fits.{Fits, IsHere};
+ghost use Rattle.std.specs.Prelude.{◌≡◌, ◌≤◌, IfOk};
+ghost use Rattle.cd_core.specs.Fits.{Fits};
+ghost use Rattle.cd_core.specs.StateLaws.{CanStart};
 ghost use Rattle.cd_core.specs.Stands.{Stands};
 ghost use Rattle.cd_core.specs.StateModel.{state_model};
 ghost use Rattle.cd_core.specs.Steps.{root_state, root_task};
@@ -16,6 +11,7 @@ use cd_base::NoMemory;
 use cd_cover::Plan;
 use cd_field::Field;
 use cd_keep::Pass;
+use cd_reading::no_begins;
 use cd_tree::NodeId;
 use cd_tries::Shelf;
 use std::alloc::Global;
@@ -27,13 +23,7 @@ pub fn start_root<F: Field, P: Pass>(
     field: F,
     pass: P,
 ) -> Result<NodeState<F, P>, NoMemory>
-    requires present { IsHere (root_of plan.now.tree.domains) (F.model field) }
-    requires script { IsAccepted plan.now.tree (F.model field).script }
-    requires events { (F.model field).events ≡ [] }
-    requires notes { (F.model field).notes ≡ no_kinds }
-    requires carved { (p : _) → in_ranges (F.model field).carved p ≡ node_writes (root_of plan.now.tree.domains) p }
-    requires holds { HoldsNothing (P.model pass) }
-    requires room { (P.model pass).room ≡ node_need (root_of plan.now.tree.domains) }
+    requires { CanStart plan.now (F.model field) (P.model pass) }
     ensures exact { IfOk result (λ state. state_model F.model P.model state ≡ root_state plan.now (F.model field) (P.model pass)) }
     ensures fits { IfOk result (λ state. Fits plan.now (state_model F.model P.model state)) }
     ensures stands { IfOk result (λ state. Stands plan.now (root_task plan.now (F.model field)) (state_model F.model P.model state)) }
@@ -51,18 +41,6 @@ pub fn start_root<F: Field, P: Pass>(
         field,
         pass,
     })
-}
-
-// As many counts of no begin.
-fn no_begins(alloc: Global, count: u32) -> Result<Vec<u64>, NoMemory>
-    ensures size { IfOk result (λ counts. length counts.items ≡ count) }
-    ensures none { IfOk result (λ counts. All (λ n. n ≡ 0) counts.items) }
-{
-    let mut counts = Vec::new(alloc);
-    for _ in 0..count {
-        counts.push(0)?;
-    }
-    Ok(counts)
 }
 
 // A pass has no more room than the first was opened with.

@@ -11,13 +11,13 @@ ghost use Rattle.cd_core.specs.Trying.{CanBegin, CanGoOn, CanMakeTries, TriedFro
 ghost use Rattle.cd_core.specs.declared.state.Stage.TheVariants.{Ready, Resumed, Lost};
 ghost use Rattle.cd_core.specs.declared.verdict.Verdict.TheVariants.{Escalates};
 
-use crate::path::path_of;
 use crate::verdict::Verdict;
 use crate::{NodeState, Stage};
 use cd_base::NoMemory;
 use cd_cover::Plan;
 use cd_field::Field;
 use cd_keep::Pass;
+use cd_reading::path_of;
 use cd_tree::{Cause, Domain, Kinds, NodeId, halting};
 use cd_tries::{Attempt, Course, Stop, go_on, keep_laws, preserve, try_again};
 use std::alloc::Global;

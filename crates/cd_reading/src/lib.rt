@@ -18,4 +18,4 @@ mod tests;
 mod through;
 mod walk;
 
-pub use through::{Reading, read_through};
+pub use through::{Reading, no_begins, path_of, read_through};

@@ -39,8 +39,8 @@ pub fn read_through(alloc: Global, tree: &Tree, script: &Script) -> Result<Readi
     Ok(Reading { begins, cause })
 }
 
-// As many counts of no begin.
-fn no_begins(alloc: Global, count: u32) -> Result<Vec<u64>, NoMemory>
+/// As many counts of no begin: those before a run.
+pub fn no_begins(alloc: Global, count: u32) -> Result<Vec<u64>, NoMemory>
     ensures size { IfOk result (λ counts. length counts.items ≡ count) }
     ensures none { IfOk result (λ counts. All (λ n. n ≡ 0) counts.items) }
 {
@@ -67,9 +67,9 @@ fn cause_of(alloc: Global, tree: &Tree, end: Ended) -> Result<Option<Cause>, NoM
     }
 }
 
-// The numbers of the domains from the root down to a domain.
+/// The numbers of the domains from the root down to a domain. It goes up as deep as domains nest.
 #[cycle(path)]
-fn path_of(alloc: Global, tree: &Tree, node: NodeId) -> Result<Items<NodeId>, NoMemory>
+pub fn path_of(alloc: Global, tree: &Tree, node: NodeId) -> Result<Items<NodeId>, NoMemory>
     requires tree { IsTree tree.now }
     requires node { node.0 < length tree.now.domains }
     ensures path { IfOk result (λ path. path ≡ path_of tree.now.domains node) }

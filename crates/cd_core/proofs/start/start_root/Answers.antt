@@ -1,6 +1,5 @@
 use Rattle.std.proofs.Common.{◌∙◌, ap, length}
 use Rattle.cd_tree.specs.TreeModel.{TreeModel}
-use Rattle.cd_core.specs.StateLaws.{CanStart}
 use Rattle.cd_core.proofs.FitsStart.{made_root, root_fits, root_stands_there}
 use Rattle.cd_core.proofs.start.start_root.Goals as goal
 
@@ -12,28 +11,10 @@ returns-clause-exact g c =
 
 pub returns-clause-fits : goal.returns-clause-fits
 returns-clause-fits g c =
-    let can : CanStart c.args.plan.now (g.F.Field.model c.args.field) (g.P.Pass.model c.args.pass) = record {
-      present = c.requires.present;
-      script = c.requires.script;
-      events = c.requires.events;
-      notes = c.requires.notes;
-      carved = c.requires.carved;
-      holds = c.requires.holds;
-      room = c.requires.room;
-    } in
     root_fits c.starting_fits.ensures c.args.plan.now (g.F.Field.model c.args.field) (g.P.Pass.model c.args.pass) _ c.tree.ensures.sound
-    c.room_is_within.ensures can (returns-clause-exact g c)
+    c.room_is_within.ensures c.requires (returns-clause-exact g c)
 
 pub returns-clause-stands : goal.returns-clause-stands
 returns-clause-stands g c =
-    let can : CanStart c.args.plan.now (g.F.Field.model c.args.field) (g.P.Pass.model c.args.pass) = record {
-      present = c.requires.present;
-      script = c.requires.script;
-      events = c.requires.events;
-      notes = c.requires.notes;
-      carved = c.requires.carved;
-      holds = c.requires.holds;
-      room = c.requires.room;
-    } in
     root_stands_there c.starting_stands.ensures c.args.plan.now (g.F.Field.model c.args.field) (g.P.Pass.model c.args.pass) _
-    c.tree.ensures.sound c.room_is_within.ensures can (returns-clause-exact g c)
+    c.tree.ensures.sound c.room_is_within.ensures c.requires (returns-clause-exact g c)
