@@ -26,14 +26,6 @@ word_copied w region index high word words all ahead read whole =
     ∙ ap (λ (v : ℕ). words ++ words_from w region index v) (sym count)
     ∙ whole
 
--- a place of the n-th entry's range is in the entries
-pub in_entry : (entries : List Entry) (n : ℕ) (d : Entry) (p : Place) → n < length entries
-    → in_range (get_or entries n d).range p ≡ true → in_entries entries p ≡ true
-in_entry [] n d p short h = absurd (omega arith)
-in_entry (entry ∷ entries) zero d p short h = or_left _ _ h
-in_entry (entry ∷ entries) (suc n) d p short h =
-    or_right (in_range entry.range p) _ (in_entry entries n d p (omega arith) h)
-
 pub enough_copies : (entries : List Entry) (copies : List (List ℕ)) → AreCopies entries copies → length entries ≤ length copies
 enough_copies [] copies fits = omega arith
 enough_copies (entry ∷ entries) [] fits = absurd fits

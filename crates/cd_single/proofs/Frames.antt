@@ -22,7 +22,9 @@ use Rattle.cd_field.specs.FieldModel.{FieldModel, hits_at, reached_point}
 use Rattle.cd_single.specs.Copies.{place_at}
 use Rattle.cd_single.specs.Single.{item_run, run_from, StaysWithin, CanRun}
 use Rattle.cd_base.proofs.PlaceLemmas.{same_from}
-use Rattle.cd_single.proofs.Points.{hits_within, runs_reached, runs_on}
+use Rattle.cd_tries.proofs.Pointing.{hits_within}
+use Rattle.cd_tries.proofs.Staying.{meant-outside, struck-outside}
+use Rattle.cd_single.proofs.Points.{runs_reached, runs_on}
 
 -- a try changes words, events and notes alone
 pub run_frame : (m : FieldModel) (point : ℕ) (items : List Item)
@@ -40,38 +42,16 @@ runs_through entries m point (item ∷ items) runs =
     runs_through entries (item_run (reached_point m point) item) (suc point) items
     (runs_on entries (reached_point m point) item (runs_reached entries m point runs))
 
--- a place that is struck by none of these faults keeps its word
-pub struck-outside : (entries : List Entry) (faults : List Fault) (w : Words) (p : Place) → in_entries entries p ≡ false
-    → All (λ (fault : Fault). (in_entries entries fault.place ≡ true) × (fault.kind.0 < 16)) faults
-    → words_struck faults w p ≡ w p
-struck-outside entries [] w p out within = refl
-struck-outside entries (fault ∷ faults) w p out within =
-    struck-outside entries faults (struck_word w fault.place fault.mask) p out
-    (λ k d short. within (suc k) d (omega (arith, short)))
-    ∙ cond-false (same_place fault.place p) _ (w p) (false_from_ne_true _ (λ t.
-    let same : (fault.place.region ≡ p.region) × (fault.place.index ≡ p.index) = same_from fault.place p t in
-    let inside : in_entries entries fault.place ≡ true = (within 0 fault (omega arith)).0 in
-    let one : fault.place ≡ p = ap₂ (λ (r i : ℕ). place_at r i) same.0 same.1 in
-    let there : in_entries entries p ≡ true = subst (λ (q : Place). in_entries entries q ≡ true) one inside in
-    cc))
-
--- an operation that stays within the entries leaves the words outside
-pub meant-outside : (entries : List Entry) (op : Op) (w : Words) (p : Place) → in_entries entries p ≡ false
-    → LieIn (in_ranges (op_writes op ∷ op_reads op)) (in_entries entries) → op_meaning op w p ≡ w p
-meant-outside entries op w p out lies =
-    cond-false (in_range (op_writes op) p) (Some (column op w (p.index - (op_writes op).low))) (w p) (false_from_ne_true _ (λ t.
-    let there : in_entries entries p ≡ true = lies p (or_left (in_range (op_writes op) p) (in_ranges (op_reads op) p) t) in cc))
-
 -- a try leaves the words outside its entries
 pub run-outside : (entries : List Entry) (m : FieldModel) (point : ℕ) (items : List Item) (p : Place) → in_entries entries p ≡ false
     → CanRun entries m → StaysWithin entries items → (run_from m point items).words p ≡ m.words p
 run-outside entries m point [] p out runs stays =
-    struck-outside entries (hits_at m point) m.words p out (hits_within entries m point runs)
+    struck-outside entries (hits_at m point) m.words p out (hits_within m.node entries m point refl runs.strikes)
 run-outside entries m point (Run op ∷ items) p out runs stays =
     run-outside entries (item_run (reached_point m point) (Run op)) (suc point) items p out
     (runs_on entries (reached_point m point) (Run op) (runs_reached entries m point runs)) stays.1
     ∙ meant-outside entries op (reached_point m point).words p out stays.0.2
-    ∙ struck-outside entries (hits_at m point) m.words p out (hits_within entries m point runs)
+    ∙ struck-outside entries (hits_at m point) m.words p out (hits_within m.node entries m point refl runs.strikes)
 run-outside entries m point (Group ids ∷ items) p out runs stays = absurd stays.0
 
 -- where sets have no kind together, neither has one
@@ -108,7 +88,7 @@ quiet_before m point (Group ids ∷ items) none =
 
 quiet_hits : (entries : List Entry) (m : FieldModel) (point : ℕ) → CanRun entries m → kinds_of (hits_at m point) ≡ 0 → hits_at m point ≡ []
 quiet_hits entries m point runs none =
-    no_kinds-no_faults (hits_at m point) (λ k d short. (hits_within entries m point runs k d short).1) none
+    no_kinds-no_faults (hits_at m point) (λ k d short. (hits_within m.node entries m point refl runs.strikes k d short).1) none
 
 -- a try that ends without notes computes what its body means
 pub run_meant : (entries : List Entry) (find : NodeId → Option Node) (m : FieldModel) (point : ℕ) (items : List Item)

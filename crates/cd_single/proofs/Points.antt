@@ -13,43 +13,13 @@ use Rattle.cd_tree.specs.Meaning.{in_entries}
 use Rattle.cd_tree.specs.Operations.{op_writes, op_meaning, column}
 use Rattle.cd_tree.specs.Scripts.{strikes_at, words_struck}
 use Rattle.cd_field.specs.FieldModel.{FieldModel, IsPresent, hits_at, reached_point}
+use Rattle.cd_tries.proofs.Pointing.{hits_within, meant-known, struck-known}
 use Rattle.cd_single.specs.Single.{item_run, run_from, ItemStaysWithin, StaysWithin, CanRun}
 use Rattle.cd_base.proofs.BoolLemmas.{by_test}
 
--- a strike leaves no place without a word
-pub struck-known : (faults : List Fault) (w : Words) (p : Place) → IsSome (w p) → IsSome (words_struck faults w p)
-struck-known [] w p known = known
-struck-known (fault ∷ faults) w p known =
-    struck-known faults (struck_word w fault.place fault.mask) p
-    (let Q : Option ℕ → Type 0 = λ o. IsSome o in
-    by_test (same_place fault.place p)
-    (λ t. subst Q (sym (cond-true (same_place fault.place p) (Some (bit_xor (word_at w fault.place) fault.mask)) (w p) t)) refl)
-    (λ f. subst Q (sym (cond-false (same_place fault.place p) (Some (bit_xor (word_at w fault.place) fault.mask)) (w p) f)) known))
-
--- nor does an operation
-pub meant-known : (op : Op) (w : Words) (p : Place) → IsSome (w p) → IsSome (op_meaning op w p)
-meant-known op w p known =
-    let Q : Option ℕ → Type 0 = λ o. IsSome o in
-    by_test (in_range (op_writes op) p)
-    (λ t. subst Q (sym (cond-true (in_range (op_writes op) p) (Some (column op w (p.index - (op_writes op).low))) (w p) t)) refl)
-    (λ f. subst Q (sym (cond-false (in_range (op_writes op) p) (Some (column op w (p.index - (op_writes op).low))) (w p) f)) known)
-
--- the faults that strike at a point strike in the entries, and have kinds
-pub hits_within : (entries : List Entry) (m : FieldModel) (point : ℕ) → CanRun entries m
-    → All (λ (fault : Fault). (in_entries entries fault.place ≡ true) × (fault.kind.0 < 16)) (hits_at m point)
-hits_within entries m point runs k d short =
-    let fault : Fault = get_or (hits_at m point) k d in
-    let passes : strikes_at m.node m.begin point fault ≡ true =
-    filter_passes (strikes_at m.node m.begin point) m.script k d short in
-    let parts : (((fault.node.0 == m.node.0) && (fault.begin == m.begin)) ≡ true) × ((fault.item == point) ≡ true) = and_parts _ _ passes in
-    let both : ((fault.node.0 == m.node.0) ≡ true) × ((fault.begin == m.begin) ≡ true) = and_parts _ _ parts.0 in
-    All-filter (strikes_at m.node m.begin point)
-    (λ (f : Fault). f.node.0 ≡ m.node.0 → (in_entries entries f.place ≡ true) × (f.kind.0 < 16)) m.script runs.strikes k d short
-    (eqb-true _ _ both.0)
-
 pub hits_present : (entries : List Entry) (m : FieldModel) (point : ℕ) → CanRun entries m
     → All (λ (fault : Fault). IsPresent m fault.place) (hits_at m point)
-hits_present entries m point runs k d short = runs.present _ (hits_within entries m point runs k d short).0
+hits_present entries m point runs k d short = runs.present _ (hits_within m.node entries m point refl runs.strikes k d short).0
 
 -- a machine that can run still can behind a point
 pub runs_reached : (entries : List Entry) (m : FieldModel) (point : ℕ) → CanRun entries m → CanRun entries (reached_point m point)

@@ -144,14 +144,18 @@ met_numbers begin end low high a b c = record {
   some = omega (arith, a, b);
 }
 
+-- how many pieces meet a range
+met_long : (link : Pieces) (r : Range) → length (met link r).ids ≡ min (count_met link r) (length link.ids - first_met link r)
+met_long link r =
+    length-take (count_met link r) (drop (first_met link r) link.ids) ∙ ap (min (count_met link r)) (length-drop (first_met link r) link.ids)
+
 pub met_cut : (known : Known) (link : Pieces) (r : Range) → IsFull r → Cover known link r → AreCut known (met link r)
 met_cut known link r full covers =
     let first : ℕ = first_met link r in
     let count : ℕ = count_met link r in
     let ids : List KeepId = take count (drop first link.ids) in
+    let long : length ids ≡ min count (length link.ids - first) = met_long link r in
     let numbers : MetNumbers link.begin link.end r.low r.high first count = met_numbers link.begin link.end r.low r.high covers.low full covers.high in
-    let long : length ids ≡ min count (length link.ids - first) =
-    length-take count (drop first link.ids) ∙ ap (min count) (length-drop first link.ids) in
     let there : (k : ℕ) (id : KeepId) → slice_get ids k ≡ Some id → slice_get link.ids (first + k) ≡ Some id = λ k id h.
     let within : k < length ids = slice_get_within ids k id h in
     sym (slice_get-get_or ids k id within
@@ -180,10 +184,8 @@ pub met_covers : (known : Known) (link : Pieces) (r : Range) → IsFull r → Co
 met_covers known link r full covers =
     let first : ℕ = first_met link r in
     let count : ℕ = count_met link r in
-    let ids : List KeepId = take count (drop first link.ids) in
     let numbers : MetNumbers link.begin link.end r.low r.high first count = met_numbers link.begin link.end r.low r.high covers.low full covers.high in
-    let long : length ids ≡ min count (length link.ids - first) =
-    length-take count (drop first link.ids) ∙ ap (min count) (length-drop first link.ids) in (
+    let long : length (met link r).ids ≡ min count (length link.ids - first) = met_long link r in (
       record {
         cut = met_cut known link r full covers;
         low = numbers.below;
@@ -191,7 +193,7 @@ met_covers known link r full covers =
       },
       record {
         first = numbers.near;
-        last = met_last link.begin link.end r.low r.high first count (length ids) (length link.ids - first) numbers long;
+        last = met_last link.begin link.end r.low r.high first count (length (met link r).ids) (length link.ids - first) numbers long;
       },
     )
   where

@@ -57,27 +57,25 @@ pub hits_present : (id : NodeId) (domain : Domain) (m : FieldModel) (point : ℕ
 hits_present id domain m point runs k d short =
     runs.present _ (hits_within id domain.entries m point runs.here runs.strikes k d short).0
 
--- a machine that can run still can after a point
-pub runs_reached : (id : NodeId) (domain : Domain) (m : FieldModel) (point : ℕ) → CanRun id domain m → CanRun id domain (reached_point m point)
-runs_reached id domain m point runs = record {
-  sound = runs.sound;
-  here = runs.here;
-  present = λ p h.
-      let before : IsPresent m p = runs.present p h in
-      record { known = struck-known (hits_at m point) m.words p before.known; here = before.here };
-  strikes = runs.strikes;
-}
+-- a machine that can run still can where node, script and what is away stay, and no word goes
+runs_kept : (id : NodeId) (domain : Domain) (m n : FieldModel) → CanRun id domain m → n.node ≡ m.node → n.script ≡ m.script
+    → ((p : Place) → n.lost p ≡ m.lost p) → ((p : Place) → IsSome (m.words p) → IsSome (n.words p)) → CanRun id domain n
+runs_kept id domain m n runs node script lost known =
+    let S : List Fault → Type 0 = λ faults. StrikesWithin id domain.entries faults in
+    record {
+      sound = runs.sound;
+      here = node ∙ runs.here;
+      present = λ p h. (let before : IsPresent m p = runs.present p h in record { known = known p before.known; here = lost p ∙ before.here });
+      strikes = subst S (sym script) runs.strikes;
+    }
 
--- and after an operation
+pub runs_reached : (id : NodeId) (domain : Domain) (m : FieldModel) (point : ℕ) → CanRun id domain m → CanRun id domain (reached_point m point)
+runs_reached id domain m point runs =
+    runs_kept id domain m (reached_point m point) runs refl refl (λ p. refl) (λ p known. struck-known (hits_at m point) m.words p known)
+
 pub runs_computed : (id : NodeId) (domain : Domain) (m : FieldModel) (op : Op) → CanRun id domain m → CanRun id domain (computed m op)
-runs_computed id domain m op runs = record {
-  sound = runs.sound;
-  here = runs.here;
-  present = λ p h.
-      let before : IsPresent m p = runs.present p h in
-      record { known = meant-known op m.words p before.known; here = before.here };
-  strikes = runs.strikes;
-}
+runs_computed id domain m op runs =
+    runs_kept id domain m (computed m op) runs refl refl (λ p. refl) (λ p known. meant-known op m.words p known)
 
 -- an operation of the domain finds all its places present
 pub op_present : (id : NodeId) (domain : Domain) (m : FieldModel) (op : Op) → CanRun id domain m → ItemStays domain.entries (item.Run op)

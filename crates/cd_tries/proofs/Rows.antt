@@ -44,14 +44,18 @@ first_short known id ids row =
     let is : length (unwrap_or (known id) []) ≡ length f.0 = ap (λ (o : Option (List ℕ)). length (unwrap_or o [])) f.1 in
     omega (arith, is, few)
 
+last_short : (known : Known) (id : KeepId) → IsRow known (id ∷ []) → length (unwrap_or (known id) [] ++ []) ≤ 64
+last_short known id row =
+    let short : length (unwrap_or (known id) []) ≤ 64 = first_short known id [] row in
+    let long : length (unwrap_or (known id) [] ++ []) ≡ length (unwrap_or (known id) []) = ap length (append-nil (unwrap_or (known id) [])) in
+    omega (arith, short, long)
+
 text_dropped : (known : Known) (f : ℕ) (ids : List KeepId) → IsRow known ids → text known (drop f ids) ≡ drop (64 * f) (text known ids)
 text_dropped known zero ids row = refl
 text_dropped known (suc f) [] row = sym (drop_all (64 * suc f) [] (omega arith))
 text_dropped known (suc f) (id ∷ []) row =
-    let short : length (unwrap_or (known id) []) ≤ 64 = first_short known id [] row in
-    let long : length (unwrap_or (known id) [] ++ []) ≡ length (unwrap_or (known id) []) = ap length (append-nil (unwrap_or (known id) [])) in
-    ap (text known) (drop_all f [] (omega arith))
-    ∙ sym (drop_all (64 * suc f) (unwrap_or (known id) [] ++ []) (omega (arith, short, long)))
+    let short : length (unwrap_or (known id) [] ++ []) ≤ 64 = last_short known id row in
+    ap (text known) (drop_all f [] (omega arith)) ∙ sym (drop_all (64 * suc f) (unwrap_or (known id) [] ++ []) (omega (arith, short)))
 text_dropped known (suc f) (id ∷ (next ∷ ids)) row =
     let t : List ℕ = text known (next ∷ ids) in
     let first : List ℕ = unwrap_or (known id) [] in
@@ -71,10 +75,9 @@ text_taken : (known : Known) (n : ℕ) (ids : List KeepId) → IsRow known ids �
 text_taken known zero ids row = refl
 text_taken known (suc n) [] row = sym (take_all (64 * suc n) [] (omega arith))
 text_taken known (suc n) (id ∷ []) row =
-    let short : length (unwrap_or (known id) []) ≤ 64 = first_short known id [] row in
-    let long : length (unwrap_or (known id) [] ++ []) ≡ length (unwrap_or (known id) []) = ap length (append-nil (unwrap_or (known id) [])) in
+    let short : length (unwrap_or (known id) [] ++ []) ≤ 64 = last_short known id row in
     ap (λ (ids : List KeepId). unwrap_or (known id) [] ++ text known ids) (take_all n [] (omega arith))
-    ∙ sym (take_all (64 * suc n) (unwrap_or (known id) [] ++ []) (omega (arith, short, long)))
+    ∙ sym (take_all (64 * suc n) (unwrap_or (known id) [] ++ []) (omega (arith, short)))
 text_taken known (suc n) (id ∷ (next ∷ ids)) row =
     let t : List ℕ = text known (next ∷ ids) in
     let first : List ℕ = unwrap_or (known id) [] in

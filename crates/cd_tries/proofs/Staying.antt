@@ -82,7 +82,7 @@ stays_told id domain m n event stays = record {
 -- ---- points
 
 -- a place that is struck by none of these faults keeps its word
-struck-outside : (entries : List Entry) (faults : List Fault) (w : Words) (p : Place) → in_entries entries p ≡ false
+pub struck-outside : (entries : List Entry) (faults : List Fault) (w : Words) (p : Place) → in_entries entries p ≡ false
     → All (λ (fault : Fault). (in_entries entries fault.place ≡ true) × (fault.kind.0 < 16)) faults
     → words_struck faults w p ≡ w p
 struck-outside entries [] w p out within = refl
@@ -97,7 +97,7 @@ struck-outside entries (fault ∷ faults) w p out within =
     cc))
 
 -- an operation that stays within the entries leaves the words outside
-meant-outside : (entries : List Entry) (op : Op) (w : Words) (p : Place) → in_entries entries p ≡ false
+pub meant-outside : (entries : List Entry) (op : Op) (w : Words) (p : Place) → in_entries entries p ≡ false
     → LieIn (in_ranges (op_writes op ∷ op_reads op)) (in_entries entries) → op_meaning op w p ≡ w p
 meant-outside entries op w p out lies =
     cond-false (in_range (op_writes op) p) (Some (column op w (p.index - (op_writes op).low))) (w p) (false_from_ne_true _ (λ t.

@@ -4,7 +4,8 @@ use Rattle.cd_tree.specs.declared.domain.Entry.{Entry}
 use Rattle.cd_tree.specs.declared.event.Event.TheVariants.{Refilled}
 use Rattle.cd_field.specs.FieldModel.{FieldModel, told}
 use Rattle.cd_single.specs.Copies.{put_back}
-use Rattle.cd_single.proofs.Copying.{blank, nth_entry, in_entry, enough_copies, put_back-known, entry_restored, copies_left}
+use Rattle.cd_tries.proofs.Steps.{in_entry}
+use Rattle.cd_single.proofs.Copying.{blank, nth_entry, enough_copies, put_back-known, entry_restored, copies_left}
 use Rattle.cd_single.proofs.copies.restore_all.Goals as goal
 
 pub loop-number-init : goal.loop-number-init

@@ -1,6 +1,6 @@
 use Rattle.std.proofs.Common.{subst, sym}
 use Rattle.cd_field.specs.FieldModel.{FieldModel, IsPresent}
-use Rattle.cd_single.proofs.Copying.{in_entry}
+use Rattle.cd_tries.proofs.Steps.{in_entry}
 use Rattle.cd_single.proofs.copies.save_all.Goals as goal
 
 pub copy_of-requires-clause-present : goal.copy_of-requires-clause-present
