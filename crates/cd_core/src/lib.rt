@@ -1,5 +1,15 @@
 //! The states of domains: a domain that can be put down between two groups and taken up by anybody. A state runs up to its
-//! next group, hands out a state for each member, and takes them back when they have ended.
+//! next group, hands out a state for each member, and takes them back when they have ended. Of a program without groups
+//! these are all calls:
+//!
+//! ```
+//! let mut state = start_root(alloc, &plan, field, pass)?;
+//! let step = state.advance(rt, alloc, &plan);
+//! let outcome = state.finish();
+//! ```
+//!
+//! Each call says exactly what it does (`exact`), that the state still fits (`fits`), and that a domain which stood where its
+//! reading had come to stands so again (`stands`). The functions of the modules of laws say why, with no code in them.
 #![tactic(auto)]
 
 mod advance;

@@ -1,6 +1,13 @@
 //! The machine that a program runs on: the trait that says what each call does to it, the machine over flat lists that the
 //! program ships, and a plain machine over maps.
 //!
+//! ```
+//! machine.load(&regions, &script)?;
+//! machine.begin(node, 1)?;
+//! machine.reached(0)?;
+//! let word = machine.read(place);
+//! ```
+//!
 //! Contracts see a machine as one record, and each call's clause is one equation between the record after the call and
 //! the record before it, so what an equation does not name stays.
 #![tactic(auto)]

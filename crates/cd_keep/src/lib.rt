@@ -1,6 +1,12 @@
 //! Preserved words behind passes: the trait that says what each call does to a pass, and the first pass, which keeps
 //! copies behind shared pointers.
 //!
+//! ```
+//! let id = pass.keep(rt, &words)?;
+//! pass.fetch(id, &mut restored);
+//! pass.give_up(id);
+//! ```
+//!
 //! Contracts see a pass as one record, and each call's clause is one equation between the record after the call and the
 //! record before it, so what an equation does not name stays.
 #![tactic(auto)]

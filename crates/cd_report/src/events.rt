@@ -1,5 +1,6 @@
 // The lines of events, as the record of a run has them.
 ghost use Rattle.std.specs.Prelude.{◌≡◌, ◌≤◌, ◌++◌, length, codes, decimal, IfOk, string_bytes};
+ghost use Rattle.cd_tree.specs.Limits.{kinds_limit};
 ghost use Rattle.cd_tokens.specs.Written.{kinds_token};
 ghost use Rattle.cd_report.specs.Texts.{line};
 ghost use Rattle.cd_report.specs.Records.{kept_text, event_line};
@@ -15,7 +16,7 @@ pub fn event_line(
     regions: &[Region],
     event: Event,
 ) -> Result<String, AllocError>
-    requires { length kinds.now ≤ 16 }
+    requires { length kinds.now ≤ kinds_limit }
     ensures { IfOk result (λ text. string_bytes text ≡ event_line kinds.now regions.now event) }
 {
     match event {
@@ -68,7 +69,7 @@ fn named(
     names: &[KindName],
     kinds: Kinds,
 ) -> Result<String, AllocError>
-    requires { length names.now ≤ 16 }
+    requires { length names.now ≤ kinds_limit }
     ensures { IfOk result (λ text. string_bytes text ≡ line (word.now ++ codes " " ++ decimal node.0 ++ codes " " ++ kinds_token names.now kinds)) }
 {
     let kinds = kinds_text(alloc, names, kinds)?;

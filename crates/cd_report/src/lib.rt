@@ -1,6 +1,10 @@
 //! The texts that the program writes: the report of a run, what the reading gives, the size of a document, the line of a
 //! refusal, and lines of their own.
 //!
+//! ```
+//! write_refusal(alloc, Some(&document), &refusal, &mut sink)?;
+//! ```
+//!
 //! Each call writes its whole text to a sink, by as many writes as it takes. `specs/Texts.antt` and `specs/Records.antt`
 //! define each text as a list of bytes, and the call's clause says that the sink grew by exactly these bytes, or by a front of them where a
 //! write failed or memory was wanting.

@@ -1,5 +1,6 @@
 // The record of a run, which is written piece by piece.
 ghost use Rattle.std.specs.Prelude.{◌≡◌, ◌<◌, ◌≤◌, ◌-◌, ◌^◌, length, take, drop, IfOk, string_bytes};
+ghost use Rattle.cd_tree.specs.Limits.{kinds_limit};
 ghost use Rattle.cd_base.specs.Ends.{WriteAll};
 ghost use Rattle.cd_report.specs.Records.{events_text, record_text};
 
@@ -22,7 +23,7 @@ pub fn write_record<F: Field, K: Sink>(
     machine: &F,
     sink: &mut K,
 ) -> Result<(), WriteStop>
-    requires kinds { length kinds.now ≤ 16 }
+    requires kinds { length kinds.now ≤ kinds_limit }
     requires short { length (F.model machine.now).events < 2 ^ 64 }
     ensures { WriteAll (K.model sink.old) (K.model sink.new) (record_text kinds.now regions.now (F.model machine.now).events) result }
 {
@@ -48,7 +49,7 @@ fn events_between<F: Field>(
     from: u64,
     to: u64,
 ) -> Result<String, AllocError>
-    requires kinds { length kinds.now ≤ 16 }
+    requires kinds { length kinds.now ≤ kinds_limit }
     requires order { from ≤ to }
     ensures { IfOk result (λ text. string_bytes text ≡ events_text kinds.now regions.now (take (to - from) (drop from (F.model machine.now).events))) }
 {
