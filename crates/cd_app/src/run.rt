@@ -21,12 +21,12 @@ use crate::status::{settled, status_by};
 use crate::tell::{tell, tell_of};
 use cd_base::{NoMemory, Sink, Source, WriteStop};
 use cd_check::check;
-use cd_single::run_one;
 use cd_cover::Plan;
 use cd_field::Field;
 use cd_foot::Footprints;
 use cd_parse::laws::a_document_is_well_read;
 use cd_report::{write_not_built, write_run};
+use cd_single::run_one;
 use cd_tree::{Begins, Cause, Document, Entry, How, NodeId, Script, Tree, halting, laws};
 use std::alloc::Global;
 
