@@ -19,3 +19,5 @@ pub mod Trying
 pub mod StateLaws
 pub mod LawsBelow
 pub mod TakingBack
+-- what the test of states runs
+pub mod Sample

@@ -31,3 +31,6 @@ mod verdict;
 
 pub use start::start_root;
 pub use state::{Ending, NodeState, Outcome, Stage, Step};
+
+#[cfg(test)]
+mod tests;
