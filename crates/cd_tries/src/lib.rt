@@ -37,8 +37,6 @@ pub use tries::{Attempt, Course, Stop, go_on, try_again};
 #[cfg(test)]
 mod keep_tests;
 #[cfg(test)]
-mod lapsing;
-#[cfg(test)]
 mod preserve_tests;
 #[cfg(test)]
 mod try_tests;
