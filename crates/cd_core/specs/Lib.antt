@@ -19,5 +19,7 @@ pub mod Trying
 pub mod StateLaws
 pub mod LawsBelow
 pub mod TakingBack
+-- what stays, how it goes on, and what members are when they come back
+pub mod Returning
 -- what the test of states runs
 pub mod Sample

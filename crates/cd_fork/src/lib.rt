@@ -1,0 +1,6 @@
+//! The engine by `join`: it runs a program from its root to its end, the members of a group at the same time.
+#![tactic(auto)]
+
+mod run;
+
+pub use run::run_root;
