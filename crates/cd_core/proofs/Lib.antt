@@ -24,6 +24,9 @@ mod Commons
 mod EndsStand
 mod Making
 mod Advanced
+mod Unmoved
+mod GoingOn
+mod Answering
 mod GroupsGiven
 mod TakenBack
 mod AfterTaking
@@ -32,6 +35,8 @@ mod TakenOn
 mod TakesBack
 mod FitsBefore
 mod Courses
+mod Ways
+mod TriesLeft
 mod FitsTries
 mod FitsEnds
 mod FitsStart
