@@ -63,3 +63,4 @@ mod Sends
 mod Moving
 mod WorkedStates
 mod WorkedReturns
+mod WorkedBounds
