@@ -76,8 +76,7 @@ module _ (l : MoreLaws) (plan : PlanModel) (s : StateModel) (domain : Domain) (i
         strikes = strikes_within l plan s.node domain s.field.script is_plan listed fits.script;
       } in
       let left : Left s.node domain m (first_tries plan domain s keeps q said.events).field =
-      points_left l.points l.tries (means_of plan domain s.node q.known keeps) (domain.retry - 1) number 0 m run_on (omega arith) holds.fit in
-      (
+      points_left l.points l.tries (means_of plan domain s.node q.known keeps) (domain.retry - 1) number 0 m run_on (omega arith) holds.fit in (
         record {
           still = record {
             node = left.still.node;

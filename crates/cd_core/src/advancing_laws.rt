@@ -64,5 +64,4 @@ pub fn advancing_stays_inside()
 /// Each lapse that it told has a gone answer of its own.
 pub fn advancing_answers_lapses()
     ensures { AdvancingAnswersLapses }
-{
-}
+{}
