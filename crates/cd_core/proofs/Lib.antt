@@ -30,6 +30,7 @@ mod AfterTaking
 mod FitsTaken
 mod TakenOn
 mod TakesBack
+mod MembersBack
 mod FitsBefore
 mod Courses
 mod FitsTries
