@@ -27,6 +27,7 @@ mod Advanced
 mod GroupsGiven
 mod TakenBack
 mod AfterTaking
+mod AfterResuming
 mod FitsTaken
 mod TakenOn
 mod TakesBack
