@@ -58,5 +58,6 @@ mod Apartness
 mod SentFit
 mod Sends
 mod Moving
+mod GroupTurns
 mod WorkedStates
 mod WorkedReturns

@@ -84,7 +84,7 @@ lost_still plan (id ∷ ids) m p lost =
 
 -- ---- how they ended
 
-ended_so : (stage : Stage) → IsEnded stage → (ending : Ending) × (stage ≡ Ended ending)
+pub ended_so : (stage : Stage) → IsEnded stage → (ending : Ending) × (stage ≡ Ended ending)
 ended_so Ready ends = absurd ends
 ended_so (Waiting spare point) ends = absurd ends
 ended_so (Resumed spare point) ends = absurd ends

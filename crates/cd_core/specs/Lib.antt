@@ -21,5 +21,6 @@ pub mod LawsBelow
 pub mod TakingBack
 -- what stays, how it goes on, and what members are when they come back
 pub mod Returning
--- what the test of states runs
+-- what the tests of states run
 pub mod Sample
+pub mod GroupSample
