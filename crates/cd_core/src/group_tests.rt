@@ -230,7 +230,9 @@ fn accepted(alloc: Global, plan: &Plan, strikes: &[Strike]) -> Result<Script, Fa
 {
     let mut faults = Items::new(alloc);
     for strike in strikes {
-        faults.push(one_fault(alloc, strike)?)?;
+        if faults.items().len() < 8 {
+            faults.push(one_fault(alloc, strike)?)?;
+        }
     }
     match accept(alloc, plan.tree(), plan.feet(), &faults) {
         Ok(script) => Ok(script),
@@ -268,14 +270,14 @@ fn ends<F: Field, P: Pass, R: Wait>(
     rt: &R,
     alloc: Global,
     plan: &Plan,
-    state: NodeState<F, P>,
+    sent: NodeState<F, P>,
     levels: u32,
 ) -> Result<NodeState<F, P>, Fail>
-    requires fits { Fits plan.now (state_model F.model P.model state) }
-    requires moves { CanMove state.stage }
-    ensures { IfOk result (λ child. CameBack plan.now (state_model F.model P.model state) (state_model F.model P.model child)) }
+    requires fits { Fits plan.now (state_model F.model P.model sent) }
+    requires moves { CanMove sent.stage }
+    ensures { IfOk result (λ child. CameBack plan.now (state_model F.model P.model sent) (state_model F.model P.model child)) }
 {
-    let mut state = state;
+    let mut state = sent;
     for _ in 0..8 {
         if turns(rt, alloc, plan, &mut state, levels)? {
             return Ok(state);
