@@ -241,12 +241,7 @@ fn accepted(alloc: Global, plan: &Plan, strikes: &[Strike]) -> Result<Script, Fa
 }
 
 // The part of a machine that the root works on.
-fn carved<F: Field>(
-    alloc: Global,
-    plan: &Plan,
-    script: &Script,
-    whole: &mut F,
-) -> Result<F, Fail>
+fn carved<F: Field>(alloc: Global, plan: &Plan, script: &Script, whole: &mut F) -> Result<F, Fail>
     requires { IsAccepted plan.now.tree script.now }
     ensures { IfOk result (λ part. IsRootPart plan.now (F.model part)) }
 {
