@@ -1,5 +1,5 @@
 -- What the test of groups rests on: turns follow each other, members come back one after another, and a root that ended is read.
-use Rattle.std.proofs.Common.{◌≡◌, ℕ, Bool, true, false, List, [], ◌∷◌, ◌++◌, Option, Some, IsSomeAnd, length, slice_get, refl, ap, subst, sym, ◌∙◌, inr, append_assoc, append_nil}
+use Rattle.std.proofs.Common.{◌≡◌, ℕ, Bool, true, false, List, [], ◌∷◌, ◌++◌, Option, Some, IsSomeAnd, length, slice_get, refl, ap, subst, sym, ◌∙◌, inr, append_assoc, append-nil}
 use Rattle.cd_base.proofs.ListLemmas.{some_and}
 use Rattle.cd_tree.specs.declared.domain.NodeId.{NodeId}
 use Rattle.cd_tree.specs.declared.domain.Domain.{Domain}
@@ -99,7 +99,7 @@ pub all_came : (plan : PlanModel) (all left done : List StateModel) → left ≡
 all_came plan all left done is on =
     let L : List StateModel → Type 0 = λ xs. (rest : List StateModel) → EachCameBack plan xs rest → EachCameBack plan all (done ++ rest) in
     let E : List StateModel → Type 0 = λ xs. EachCameBack plan all xs in
-    subst E (append_nil done) (subst L is on.leads [] tt)
+    subst E (append-nil done) (subst L is on.leads [] tt)
 
 -- ---- taking them back
 
