@@ -30,9 +30,11 @@ mod Answering
 mod GroupsGiven
 mod TakenBack
 mod AfterTaking
+mod AfterResuming
 mod FitsTaken
 mod TakenOn
 mod TakesBack
+mod MembersBack
 mod FitsBefore
 mod Courses
 mod Ways
@@ -61,6 +63,7 @@ mod Apartness
 mod SentFit
 mod Sends
 mod Moving
+mod GroupTurns
 mod WorkedStates
 mod WorkedReturns
 mod WorkedBounds

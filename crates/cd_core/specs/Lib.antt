@@ -23,5 +23,6 @@ pub mod TakingBack
 pub mod Returning
 -- what an advance does not pass over
 pub mod Bounds
--- what the test of states runs
+-- what the tests of states run
 pub mod Sample
+pub mod GroupSample

@@ -33,4 +33,6 @@ pub use start::start_root;
 pub use state::{Ending, NodeState, Outcome, Stage, Step};
 
 #[cfg(test)]
+mod group_tests;
+#[cfg(test)]
 mod tests;
