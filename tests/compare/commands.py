@@ -6,8 +6,8 @@
 REFERENCE is the path of the reference program, whose folder has its parts. PATH is the program, as the test of the repository
 has built it if none is given. COUNT documents are made at random, two of three made wrong by changes; half as many are aimed at
 one refusal each, have statements put in whose parts are right or wrong, are small programs for the checks, or have one domain;
-four times as many are nested programs with scripts; documents at each limit and at each choice of the language are added, and
-with --large those that take long. Each goes through `check`, and every other one through `read`, the others through `lift`;
+four times as many are nested programs with scripts; the examples and documents at each limit and at each choice of the language
+are added, and with --large those that take long. Each goes through `check`, and every other one through `read`, the others through `lift`;
 canonical texts are read again. Each that is accepted is run twice, with its record and without, by 1 to 8 workers in turn; each
 that is refused, once. Then come command lines and ends that fail. Statuses and bytes have to agree.
 
@@ -28,7 +28,7 @@ import sys
 import tempfile
 
 from changes import aimed, made
-from chosen import choices, generated, large, limits
+from chosen import choices, examples, generated, large, limits
 from counting import features, wanting
 from mixing import mixed, tangled
 from nested import nested
@@ -68,7 +68,7 @@ def as_bytes(document):
 def chosen(with_slow):
     """Documents by their names, which no seed determines."""
     quick = {name: document for name, document in large().items() if with_slow or name.startswith(QUICK)}
-    return {**limits(), **choices(), **at_limits(), **put_wrong(), **{f'generated_{n}': generated(n) for n in range(1, 15)}, **quick}
+    return {**examples(), **limits(), **choices(), **at_limits(), **put_wrong(), **{f'generated_{n}': generated(n) for n in range(1, 15)}, **quick}
 
 
 @functools.cache
