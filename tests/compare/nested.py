@@ -2,7 +2,7 @@
 
 import random
 
-from making import TOP, Lin, Part, some_name, some_word, text
+from making import TOP, Lin, Part, digits, some_name, some_word, text
 from single import SMALL, Single
 
 SIZES = [[1, 2, 3, 4, 6, 8], [4, 8, 12, 16, 24], [15, 16, 17, 20], [1, 16, 63, 64, 65, 130], [200, 64, 8]]
@@ -43,13 +43,17 @@ class Nested(Single):
         self.levels = []
         self.domains = []
         self.left = rng.choice([1, 2, 3, 4, 6, 9, 14, 20])
-        self.deepest = rng.choice([2, 3, 3, 4, 5, 8, 16])
+        self.deepest = rng.choice([2, 3, 3, 4, 5, 8, 8, 16])
         self.kinds_of_version(rng.choice([1, 2, 2]))
         self.domain(some_name(rng, []), '', set(), self.regions(), [])
         if rng.random() < 0.95:
             self.say('faults')
             self.script()
         return self.lines
+
+    def number(self, value):
+        """A sum with this value; the greatest numbers are written as they are, so that no part of a sum is too large."""
+        return super().number(value) if value < TOP // 2 else digits(self.rng, value)
 
     # What a single domain's operations ask of the domain in hand.
 
