@@ -1,6 +1,11 @@
-"""Documents at each limit and at each choice that a reader of the definitions would wonder about, and large ones."""
+"""Documents at each limit and at each choice that a reader of the definitions would wonder about, large ones, and the examples."""
+
+import glob
+import os
 
 from making import TOP
+
+EXAMPLES = os.path.join(os.path.dirname(os.path.abspath(__file__)), '..', '..', 'examples', '*.cd')
 
 
 # ---- documents at limits and at choices --------------------------------------------------------------------------------
@@ -304,6 +309,14 @@ def choices():
     add('product', PRODUCT)
     for n in (1, 2, 4):
         add(f'generated_{n}', generated(n))
+    return out
+
+
+def examples():
+    out = {}
+    for path in sorted(glob.glob(EXAMPLES)):
+        with open(path, 'rb') as kept:
+            out['example_' + os.path.basename(path)[:-len('.cd')]] = kept.read()
     return out
 
 

@@ -5,12 +5,16 @@
 
 REFERENCE is the path of the reference program, whose folder has its parts. PATH is the program, as the test of the repository
 has built it if none is given. COUNT documents are made at random, two of three made wrong by changes; half as many are aimed at
-one refusal each, have statements put in whose parts are right or wrong, are small programs for the checks, or have one domain
-that can be run; documents at each limit and at each choice of the language are added, and with --large those that take long.
-Each goes through `check`, through `run` with or without its record, and every other one through `read`, the others through
-`lift`; canonical texts are read again. Then come command lines and ends that fail. Statuses and bytes have to agree. A document
-is determined by the seed and its name alone, and --only NAME tries the one with this name, or those whose names begin with it.
-The document of each difference that is shown is kept in a file. The last line is `N passed, M failed`, and the status is 1 where one failed.
+one refusal each, have statements put in whose parts are right or wrong, are small programs for the checks, or have one domain;
+four times as many are nested programs with scripts; the examples and documents at each limit and at each choice of the language
+are added, and with --large those that take long. Each goes through `check`, and every other one through `read`, the others through `lift`;
+canonical texts are read again. Each that is accepted is run twice, with its record and without, by 1 to 8 workers in turn; each
+that is refused, once. Then come command lines and ends that fail. Statuses and bytes have to agree.
+
+What accepted documents have and what their runs show is counted; where all is compared with the usual numbers, each thing has to
+be found often enough. A document is determined by the seed and its name alone, and --only NAME tries the one with this name, or
+those whose names begin with it. The document of each difference that is shown is kept in a file. The last line is `N passed,
+M failed`, and the status is 1 where one failed.
 """
 
 import argparse
@@ -24,8 +28,10 @@ import sys
 import tempfile
 
 from changes import aimed, made
-from chosen import choices, generated, large, limits
+from chosen import choices, examples, generated, large, limits
+from counting import features, wanting
 from mixing import mixed, tangled
+from nested import nested
 from reference import WANTED_TEXT, WRITE_FAULT, Reference
 from single import at_limits, put_wrong, single
 from words import DOCUMENTS, KEPT, ONE, SPENT, TWO, WRONG, command_lines
@@ -35,7 +41,12 @@ LIMIT = 1048576
 SECONDS = 120
 # How many cases with differences are shown.
 SHOWN = 60
-RUNS = [['run', '--record'], ['run'], ['run', '--record', '--workers', '3'], ['--workers=1', '--record', 'run']]
+# The usual number of random documents.
+COUNT = 800
+# The most workers that a run is given.
+WORKERS = 8
+# What is counted of what accepted documents show.
+FOUND = 'accepted documents with'
 # The large documents that are quick all the same.
 QUICK = ('need_', 'lines_', 'two_regions', 'two_entries', 'two_members', 'two_depth', 'two_nesting', 'two_kinds', 'two_faults', 'text_over', 'text_full', 'text_digits', 'text_token', 'text_kinds')
 
@@ -57,7 +68,7 @@ def as_bytes(document):
 def chosen(with_slow):
     """Documents by their names, which no seed determines."""
     quick = {name: document for name, document in large().items() if with_slow or name.startswith(QUICK)}
-    return {**limits(), **choices(), **at_limits(), **put_wrong(), **{f'generated_{n}': generated(n) for n in range(1, 15)}, **quick}
+    return {**examples(), **limits(), **choices(), **at_limits(), **put_wrong(), **{f'generated_{n}': generated(n) for n in range(1, 15)}, **quick}
 
 
 @functools.cache
@@ -69,7 +80,7 @@ def cases(given):
     """What is compared, as the name of a kind, a number or a name, and for command lines all that they are."""
     half = given.count // 2
     yield from (('chosen', name) for name in chosen(given.large))
-    for kind, count in (('random', given.count), ('aimed', half), ('mixed', half), ('tangled', half), ('single', half)):
+    for kind, count in (('random', given.count), ('aimed', half), ('mixed', half), ('tangled', half), ('single', half), ('nested', 4 * given.count)):
         yield from ((kind, number) for number in range(1, count + 1))
     yield from (('words', number) for number in range(len(lines_of(given))))
     yield from (('ends', number) for number in range(len(failing_ends())))
@@ -87,7 +98,7 @@ def document_of(given, reference, kind, number):
         return as_bytes(chosen(given.large)[number])
     if kind == 'aimed':
         return aimed(given.seed, number, said)
-    return {'random': made, 'mixed': mixed, 'tangled': tangled, 'single': single}[kind](given.seed, number)
+    return {'random': made, 'mixed': mixed, 'tangled': tangled, 'single': single, 'nested': nested}[kind](given.seed, number)
 
 
 # ---- the program -------------------------------------------------------------------------------------------------------
@@ -141,21 +152,32 @@ class Found:
             self.differences.append(said)
 
 
+def runs(turn, is_accepted):
+    """The command lines of a document's runs: workers 1 to 8 in turn, and others for the run without its record."""
+    with_record = ['run', '--record', '--workers', str(1 + turn % WORKERS)]
+    without = [f'--workers={1 + turn * 3 % WORKERS}', 'run'] if turn % WORKERS else ['run']
+    return [with_record, without] if is_accepted else [[with_record, without][turn % 2]]
+
+
 def compare_document(given, reference, kind, number):
     found = Found(f'{kind} {number}')
     found.data = data = document_of(given, reference, kind, number)
     turn = number if isinstance(number, int) else sum(number.encode())
-    lines = RUNS[turn % len(RUNS)] if kind != 'single' else RUNS[[0, 2, 3, 0, 1][turn % 5]]
     answers = {}
-    for words in (['check'], ['read' if turn % 2 else 'lift'], lines):
+
+    def compare_with(words):
         wanted = reference.answer(words, data)
         answers[words[0]] = got = run(given, words, data)
         found.count('run' if 'run' in words else words[0], wanted[0])
         found.put(difference(' '.join(words), wanted, got))
-        if words == ['check']:
-            found.count('documents', wanted[1].split()[1].decode())
-        if '--record' in words and wanted[0] in WANTED_TEXT:
-            found.count('records', wanted[0])
+        return wanted[0], wanted[1].decode()
+    status, checked = compare_with(['check'])
+    found.count('documents', checked.split()[1])
+    compare_with(['read' if turn % 2 else 'lift'])
+    reports = [compare_with(words) for words in runs(turn, status == 0)]
+    if status == 0:
+        for said in features(checked.partition('\n')[2], reports[0][1]):
+            found.count(FOUND, said)
     if answers['check'][0] == 0:
         read_again(given, found, answers)
     return found
@@ -242,7 +264,7 @@ def main():
     parser.add_argument('reference')
     parser.add_argument('--program', default=os.path.join(TOP, 'crates', 'cd', 'out', 'cd'))
     parser.add_argument('--seed', type=int, default=1)
-    parser.add_argument('--count', type=int, default=800, help='how many random documents; of each other kind half as many')
+    parser.add_argument('--count', type=int, default=COUNT, help='how many random documents; of each other kind half as many')
     parser.add_argument('--lines', type=int, default=500, help='how many command lines at the least')
     parser.add_argument('--large', action='store_true')
     parser.add_argument('--only', default='', help='the name of the one case to try, or the front of some names')
@@ -264,6 +286,11 @@ def main():
                 show(found, folder, failed)
     if failed > SHOWN:
         print(f'{failed - SHOWN} more are not shown')
+    if given.count >= COUNT and not given.only:
+        lacking = wanting({said: count for (group, said), count in tally.items() if group == FOUND})
+        failed += len(lacking)
+        for said in lacking:
+            print(f'too few documents: {said}')
     for group in dict.fromkeys(group for group, _ in tally):
         counts = sorted((len(str(what)), str(what), count) for (other, what), count in tally.items() if other == group)
         print(f'{group}: ' + ', '.join(f'{what} {count}' for _, what, count in counts))

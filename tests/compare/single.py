@@ -1,4 +1,4 @@
-"""Documents of one domain whose entries are all copies and whose kinds do not halt, and texts of such a document with one thing put wrong."""
+"""Documents of one domain, and texts of such a document with one thing put wrong."""
 
 import random
 
@@ -16,19 +16,21 @@ SMALL = [['iota', '0', '1'], ['iota', '0', '2'], ['const', '1'], ['iota', '1', '
 
 
 class Single(Maker):
-    """A document of one domain, with copies alone. Its strikes may come at each begin, so that the root is exhausted."""
+    """A document of one domain. Its strikes may come at each begin, so that the root is exhausted."""
 
     def make(self):
         rng = self.rng
         self.kinds_of_version(rng.choice([1, 2]))
         self.kept = []
+        self.written = []
         entries = self.regions()
         self.root = some_name(rng, [])
         self.retry = rng.choice([1, 1, 2, 2, 3, 3, 4, 7, 100])
         self.detects = self.kinds(rng.random() < 0.9)
         self.say('domain', self.region_name(self.root), 'retry', self.number(self.retry), 'detects', ','.join(self.detects) or 'none')
         for name, low, high in entries:
-            self.say('preserve', self.written_range((name, low, high)), 'copy')
+            how = ['copy'] if rng.random() < 0.9 else ['regen', *rng.choice([self.patterns[name], self.patterns[name], self.pattern()])]
+            self.say('preserve', self.written_range((name, low, high)), *how)
         self.items = 0
         if self.kept:
             for _ in range(rng.choice([0, 1, 1, 2, 3, 5, 8, 13])):
@@ -49,19 +51,18 @@ class Single(Maker):
             for _ in range(rng.choice([1, 2, 3, 3, 5, 16])):
                 name = some_name(rng, self.names + ['none'])
                 self.names.append(name)
-                self.say('kind', name)
+                self.say('kind', name, *(['halt'] if rng.random() < 0.25 else []))
 
     def regions(self):
         """Says the regions, and gives the ranges that are preserved; `kept` has those that hang together."""
         rng = self.rng
-        self.sizes = {}
-        self.small = set()
+        self.sizes, self.patterns, self.small = {}, {}, set()
         entries = []
         usual = rng.choice([[1, 2, 3, 4, 5], [3, 4, 8, 9, 10], [15, 16, 17, 18], [1, 16, 63, 64, 65, 66], [rng.randrange(1, 300), 1, 100]])
         for _ in range(rng.choice([0, 1, 2, 3, 4, 5, 6])):
             name, size = some_name(rng, self.sizes), rng.choice(usual)
             self.sizes[name] = size
-            pattern = rng.choice([self.pattern(), self.pattern(), *SMALL])
+            pattern = self.patterns[name] = rng.choice([self.pattern(), self.pattern(), *SMALL])
             if pattern in SMALL:
                 self.small.add(name)
             self.say('region', self.region_name(name), self.number(size), *pattern)
@@ -88,22 +89,28 @@ class Single(Maker):
         name, low, high = given
         return self.range(Part(name, Lin(low), high - low, self.sizes[name]), Lin(low), high - low)
 
+    def readable(self):
+        """The ranges that a source may lie in."""
+        return self.kept
+
     def piece_of(self, size=None, apart=None):
-        """A range of kept words, of this size or of any, apart from this other one; None where none was found."""
+        """A range of kept words, of this size or of any, to be written, or to be read, apart from this other one; None where none was found."""
+        among = self.kept if apart is None else self.readable()
         for _ in range(6):
-            name, low, high = self.rng.choice(self.kept)
+            whole = self.rng.choice(among)
+            name, low, high = whole
             if size is not None and not 1 <= size <= high - low:
                 continue
             low, high = self.inside(low, high, size)
             if size is None and self.rng.random() < 0.4:
-                _, low, high = next(kept for kept in self.kept if kept[0] == name)
+                _, low, high = whole
             if apart is None or name != apart[0] or high <= apart[1] or apart[2] <= low:
                 return name, low, high
         return None
 
     def first_words(self, size, apart):
         """The first kept words of a region of small numbers, apart from another range; None where there are none."""
-        fit = [(name, low, low + size) for name, low, high in self.kept
+        fit = [(name, low, low + size) for name, low, high in self.readable()
                if name in self.small and size <= high - low and (name != apart[0] or low + size <= apart[1] or apart[2] <= low)]
         return self.rng.choice(fit) if fit else None
 
@@ -120,10 +127,12 @@ class Single(Maker):
             common = rng.choice([1, 2, 3, 5, 8])
             parts = [self.part(letter, to, size, common) for letter in SHAPES[word]]
             if None not in parts:
-                self.say(word, self.written_range(to), *parts)
-                self.items += 1
-                return
-        self.say('fill', self.written_range(self.piece_of()), self.number(some_word(rng)))
+                return self.operate(word, to, *parts)
+        return self.operate('fill', self.piece_of(), self.number(some_word(rng)))
+
+    def operate(self, word, to, *parts):
+        self.say(word, self.written_range(to), *parts)
+        self.written.append(to)
         self.items += 1
 
     def part(self, letter, to, size, common):
@@ -147,6 +156,7 @@ class Single(Maker):
         self.say(*rng.choice([['fill', at, written(rng, Lin(rng.randrange(9), {'i': rng.randrange(4)}))], ['copy', at, before], ['add', at, at, before],
                               ['mul', f'{name}[i..i+1]', before, before], ['axpy', at, written(rng, Lin(3, {'i': 1})), before], ['sub', at, before, at]]))
         self.say('end')
+        self.written.append((name, low + 1, high))
         self.items += high - low - 1
 
     def strikes(self):

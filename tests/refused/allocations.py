@@ -5,7 +5,8 @@
 
 PATH is the program, as the test of the repository has built it if none is given. Each call is made once with memory, and then
 once for each of its calls of malloc, realloc or calloc, which is refused, by the library of `refusing.c`. The status and the text
-have to be those with memory, or the status is that of want of memory and the text a front of that with memory. The last line is
+have to be those with memory, or the status is that of want of memory and the text a front of that with memory. Where two threads run, which
+call is refused under a number differs from run to run, and what has to hold does not. The last line is
 `N passed, M failed`, and the status is 1 where one failed. Where there is no C compiler, nothing is tried.
 """
 
@@ -28,6 +29,14 @@ RUNNING = 'cd 1\nregion y 4 mix 3\ndomain root retry 2 detects flip\npreserve y 
 EXHAUSTED = RUNNING + 'strike root 2 0 flip y[0] 1\n'
 GROUPS = ('cd 1\nregion y 8 iota 0 1\ndomain root retry 2 detects node\npreserve y copy\ngroup\nfor i in 0..2\ndomain half:i retry 2 detects flip\n'
           'preserve y[4*i..4*i+4] refer\nfill y[4*i..4*i+4] 7\nend\nend\nend\nend\nfaults\nstrike root/half1 1 0 flip y[5] 2\n')
+# A group in a group, with a copy of words that were written, a reference and a pattern that does not give its words. A worker is struck
+# in its own try, and the half around the others by a note that a worker hands up.
+NESTED = ('cd 1\nregion y 130 iota 0 1\nregion z 2 const 5\ndomain root retry 2 detects node\npreserve y copy\npreserve z copy\nfill z 6\ngroup\n'
+          'for i in 0..2\ndomain half:i retry 2 detects lost\npreserve y[65*i..65*i+65] refer\npreserve z regen const 5\ngroup\nfor j in 0..2\n'
+          'domain part:j retry 2 detects flip\npreserve y[65*i+32*j..65*i+32*j+32] refer\npreserve z copy\nadd y[65*i+32*j..65*i+32*j+2] y[65*i+32*j..65*i+32*j+2] z\n'
+          'end\nend\nend\nend\nend\nend\nend\nfaults\nstrike root/half0/part1 1 1 flip y[40] 2\nstrike root/half1/part0 1 0 lost y[70] 4\n')
+# Both tries of a worker are struck in each try of its half and of the root, so that all tries are used up.
+SPENT = NESTED + 'for b in 3..9\nstrike root/half0/part1 b 1 flip y[40] b\nend\nstrike root/half0/part1 2 1 flip y[41] 1\n'
 INTERFERES = GROUPS.replace('fill y[4*i..4*i+4] 7', 'fill y[0..2] 7')
 NO_FORM = RUNNING.replace('scan y y', 'scan y z')
 
@@ -46,6 +55,11 @@ CALLS = [
     (['run'], EXHAUSTED, 1),
     (['run', '--record', '--workers', '3'], RUNNING, 0),
     (['--record', 'run'], EXHAUSTED, 1),
+    (['run', '--workers', '2'], GROUPS, 0),
+    (['run', '--workers', '2'], NESTED, 0),
+    (['run', '--workers', '2', '--record'], NESTED, 0),
+    (['run', '--workers', '1', '--record'], NESTED, 0),
+    (['run', '--workers', '2', '--record'], SPENT, 1),
     (['make', '--size=1'], '', 0),
     (['run', '--workers', '0'], '', 2),
     ([], '', 2),
