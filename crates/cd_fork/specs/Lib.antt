@@ -1,2 +1,4 @@
 -- What a run comes to.
 pub mod Running
+-- How a domain is taken to its end, turn by turn.
+pub mod Onward
