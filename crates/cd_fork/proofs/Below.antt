@@ -39,7 +39,7 @@ sent_below : (plan : PlanModel) (s : StateModel) (at : ℕ) (ids : List NodeId) 
 sent_below plan s at [] m p within named = omega arith
 sent_below plan s at (id ∷ ids) m p within (later, child, named) =
     let rest : most_below plan (all_sent plan s ids (without m (foot_of plan id).writes) (passes.without p (need_of plan.tree.domains id)))
-        < length plan.tree.domains - at =
+    < length plan.tree.domains - at =
     sent_below plan s at ids (without m (foot_of plan id).writes) (passes.without p (need_of plan.tree.domains id)) within named in
     omega (arith, rest, later, within)
 

@@ -90,7 +90,7 @@ ran_by {F} {P} field plan was s (Exhausted machine begins cause) (Ended (Escalat
   over,
   ran_as plan was (field machine) (field s.field) begins s.counts.items (Escalated cause over) (ap field is.0) is.1
       (let E : Ending → Type 0 = λ e. Ran plan was (field s.field) s.counts.items e in
-       subst E (ap (λ c. Escalated c over) (sym is.2)) (has (Escalated why over) refl)),
+      subst E (ap (λ c. Escalated c over) (sym is.2)) (has (Escalated why over) refl)),
 )
 
 -- a root that was run from its start to its end

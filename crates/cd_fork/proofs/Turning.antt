@@ -64,9 +64,9 @@ taken_on law plan old mid new sent back stays stands onward came fits moves stil
     can = record { fits = fits; moves = moves };
     stays = stays_on old mid new stays still;
     stands = λ t st. (
-      let there : Stands plan t mid × EachAnswers plan t.faults t.loaded mid sent = stands t st in
-      stood t there.0 (law plan t.faults t.loaded mid sent back came there.1)
-    );
+        let there : Stands plan t mid × EachAnswers plan t.faults t.loaded mid sent = stands t st in
+        stood t there.0 (law plan t.faults t.loaded mid sent back came there.1)
+        );
   },
   omega (arith, onward, less),
 )

@@ -7,3 +7,6 @@ mod siblings;
 mod turns;
 
 pub use run::run_root;
+
+#[cfg(test)]
+mod tests;
