@@ -1,5 +1,5 @@
 -- The members that a domain sends lie below it, are not too many, and can be run.
-use Rattle.std.proofs.Common.{◌≡◌, ℕ, zero, suc, ◌-◌, ◌<◌, ◌≤◌, max, List, [], ◌∷◌, Some, length, slice_get, sym, subst, ap, arith}
+use Rattle.std.proofs.Common.{◌≡◌, ℕ, zero, suc, ◌+◌, ◌-◌, ◌*◌, ◌<◌, ◌≤◌, max, List, [], ◌∷◌, Some, length, slice_get, refl, sym, subst, ap, arith}
 use Rattle.std.specs.Option.{option_map_or}
 use Rattle.std.proofs.lemmas.Option.{slice_get_within}
 use Rattle.cd_tree.specs.declared.domain.NodeId.{NodeId}
@@ -20,7 +20,7 @@ use Rattle.cd_core.specs.Advancing.{all_sent, members_at, members_of_item, state
 use Rattle.cd_core.specs.Asks.{foot_of}
 use Rattle.cd_core.specs.StateModel.{StateModel}
 use Rattle.cd_core.specs.Steps.{Advances, AllFit, StepIs, sends}
-use Rattle.cd_fork.specs.Onward.{EachCanRun, most_below, room_below}
+use Rattle.cd_fork.specs.Onward.{EachCanRun, most_below, weight_of_all}
 
 -- the members of the group at an item are later domains, and not too many
 named_at : (domains : List Domain) (at : ℕ) (items : List Item) (k : ℕ) → FitsItems domains at items
@@ -59,8 +59,7 @@ sent_can_run plan s (id ∷ ids) m p fit = (
 
 -- the members that a domain sent
 pub record AreBelow (plan : PlanModel) (at : ℕ) (sent : List StateModel) : Type 0 where
-  pub deep : most_below plan sent < length plan.tree.domains - at
-  pub few : length sent ≤ members_limit
+  pub light : weight_of_all plan sent + 4 ≤ (length plan.tree.domains - at) * 1024
   pub can : EachCanRun plan sent
 
 by_verdict : (plan : PlanModel) (domain : Domain) (s : StateModel) (verdict : Verdict) (sent : List StateModel) → IsPlan plan
@@ -73,11 +72,12 @@ by_verdict plan domain s (Waits spare point) sent is_plan listed is fit =
     let many : length (all_sent plan s (members_at domain point) s.field s.pass) ≡ length (members_at domain point) =
     sent_length plan s (members_at domain point) s.field s.pass in
     let few : length (members_at domain point) ≤ members_limit = named.1 in
+    let deep : most_below plan (all_sent plan s (members_at domain point) s.field s.pass) < length plan.tree.domains - s.node.0 =
+    sent_below plan s s.node.0 (members_at domain point) s.field s.pass within named.0 in
     let A : List StateModel → Type 0 = λ xs. AllFit plan xs in
     let B : List StateModel → Type 0 = λ xs. AreBelow plan s.node.0 xs in
     subst B (sym is) (record {
-      deep = sent_below plan s s.node.0 (members_at domain point) s.field s.pass within named.0;
-      few = omega (arith, many, few);
+      light = omega (arith, many, few, deep);
       can = sent_can_run plan s (members_at domain point) s.field s.pass (subst A is fit);
     })
 by_verdict plan domain s (Completes leak) sent is_plan listed is fit = absurd is

@@ -1,10 +1,10 @@
 -- Members that are run in two halves, or one after another: what is true of each part is true of the whole.
-use Rattle.std.proofs.Common.{◌≡◌, ℕ, ◌≤◌, max, List, [], ◌∷◌, ◌++◌, take, drop, map, refl, ap, sym, subst, ◌∙◌, append_assoc, arith}
-use Rattle.std.proofs.lemmas.List.{append-nil, map-append, take-append-drop}
+use Rattle.std.proofs.Common.{◌≡◌, ℕ, ◌+◌, ◌*◌, ◌<◌, ◌≤◌, max, List, [], ◌∷◌, ◌++◌, take, drop, length, map, refl, ap, sym, subst, ◌∙◌, append_assoc, arith}
+use Rattle.std.proofs.lemmas.List.{append-nil, length-append, length-map, map-append, take-append-drop}
 use Rattle.cd_cover.specs.Plans.{PlanModel}
 use Rattle.cd_core.specs.Returning.{CameBack, EachCameBack}
 use Rattle.cd_core.specs.StateModel.{StateModel}
-use Rattle.cd_fork.specs.Onward.{CanRun, EachCanRun, most_below, room_below}
+use Rattle.cd_fork.specs.Onward.{CanRun, EachCanRun, most_below, room_below, weight_of_all}
 
 -- ---- halves
 
@@ -36,24 +36,28 @@ halved {A} f n xs low high front back =
 pub record Halves (plan : PlanModel) (all low high : List StateModel) : Type 0 where
   pub low_can : EachCanRun plan low
   pub high_can : EachCanRun plan high
-  pub low_deep : most_below plan low ≤ most_below plan all
-  pub high_deep : most_below plan high ≤ most_below plan all
+  pub low_light : weight_of_all plan low + 2 ≤ weight_of_all plan all
+  pub high_light : weight_of_all plan high + 2 ≤ weight_of_all plan all
 
-halves_of : (plan : PlanModel) (all low high : List StateModel) → all ≡ low ++ high → EachCanRun plan all → Halves plan all low high
-halves_of plan all low high is each =
+halves_of : (plan : PlanModel) (all low high : List StateModel) → all ≡ low ++ high → 0 < length low → 0 < length high → EachCanRun plan all
+    → Halves plan all low high
+halves_of plan all low high is some more each =
     let both : EachCanRun plan (low ++ high) = subst (EachCanRun plan) is each in
     let most : most_below plan all ≡ max (most_below plan low) (most_below plan high) = ap (most_below plan) is ∙ most_both plan low high in
+    let many : length all ≡ length low + length high = ap (λ (xs : List StateModel). length xs) is ∙ length-append low high in
     record {
       low_can = each_first plan low high both;
       high_can = each_last plan low high both;
-      low_deep = omega (arith, most);
-      high_deep = omega (arith, most);
+      low_light = omega (arith, most, many, some, more);
+      high_light = omega (arith, most, many, some, more);
     }
 
 pub in_halves : {A : Type 0} (f : A → StateModel) (plan : PlanModel) (n : ℕ) (xs low high : List A) → low ≡ take n xs → high ≡ drop n xs
-    → EachCanRun plan (map f xs) → Halves plan (map f xs) (map f low) (map f high)
-in_halves {A} f plan n xs low high front back each =
-    halves_of plan (map f xs) (map f low) (map f high) (halved f n xs low high front back) each
+    → 0 < length low → 0 < length high → EachCanRun plan (map f xs) → Halves plan (map f xs) (map f low) (map f high)
+in_halves {A} f plan n xs low high front back some more each =
+    let low_some : 0 < length (map f low) = omega (arith, some, length-map low f) in
+    let high_some : 0 < length (map f high) = omega (arith, more, length-map high f) in
+    halves_of plan (map f xs) (map f low) (map f high) (halved f n xs low high front back) low_some high_some each
 
 pub halves_back : {A : Type 0} (f : A → StateModel) (plan : PlanModel) (n : ℕ) (xs low high first second all : List A)
     → low ≡ take n xs → high ≡ drop n xs → all ≡ first ++ second → EachCameBack plan (map f low) (map f first)

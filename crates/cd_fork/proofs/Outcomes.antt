@@ -1,11 +1,11 @@
 -- The outcome of a root that came back as its ending.
-use Rattle.std.proofs.Common.{◌≡◌, ℕ, suc, ◌+◌, ◌≤◌, ◌⊎◌, inl, inr, List, Option, Some, All, length, map, refl, ap, sym, subst, ◌∙◌, arith}
+use Rattle.std.proofs.Common.{◌≡◌, ℕ, suc, ◌+◌, ◌≤◌, ◌⊎◌, inl, inr, List, Option, Some, All, length, map, slice_index_or, refl, ap, sym, subst, ◌∙◌, arith}
 use Rattle.std.proofs.lemmas.List.Elements.{All-map}
 use Rattle.cd_tree.specs.declared.domain.NodeId.{NodeId}
+use Rattle.cd_tree.specs.declared.event.Cause.{Cause}
 use Rattle.cd_tree.specs.Domains.{Node, node, node_of, node_numbers, root_of}
 use Rattle.cd_tree.specs.Laws.{CountsAreAtMostOneMoreThanEntries}
 use Rattle.cd_tree.specs.Reading.{Counts}
-use Rattle.cd_tree.specs.Record.{reading}
 use Rattle.cd_tree.proofs.EachDomain.{root_there}
 use Rattle.cd_field.specs.FieldModel.{FieldModel}
 use Rattle.cd_keep.specs.PassModel.{PassModel}
@@ -90,7 +90,7 @@ ran_by {F} {P} field plan was s (Exhausted machine begins cause) (Ended (Escalat
   over,
   ran_as plan was (field machine) (field s.field) begins s.counts.items (Escalated cause over) (ap field is.0) is.1
       (let E : Ending → Type 0 = λ e. Ran plan was (field s.field) s.counts.items e in
-      subst E (ap (λ c. Escalated c over) (sym is.2)) (has (Escalated why over) refl)),
+      subst E (ap (λ (c : Cause). Escalated c over) (sym is.2)) (has (Escalated why over) refl)),
 )
 
 -- a root that was run from its start to its end
@@ -121,7 +121,11 @@ few_of law plan was now begins ending is_plan ran =
     let counts : Counts = (task_reading plan (root_task plan was)).counts in
     subst Few (sym ran.counts)
     (All-map (λ count. count ≤ suc (length was.script)) counts (node_numbers (root_of plan.tree.domains))
-    (λ k d within. (let most : (reading plan.tree was.script).counts _ ≤ 1 + length was.script = law plan.tree was.script _ is_plan.program in omega (arith, most))))
+    (λ k d within. (
+    let n : ℕ = slice_index_or (node_numbers (root_of plan.tree.domains)) k d in
+    let most : (task_reading plan (root_task plan was)).counts n ≤ 1 + length was.script = law plan.tree was.script n is_plan.program in
+    omega (arith, most)
+    )))
 
 pub few_begins : {F : Type 0} (field : F → FieldModel) → CountsAreAtMostOneMoreThanEntries → (plan : PlanModel) (was : FieldModel) (outcome : Outcome F)
     → IsPlan plan → RanTo field plan was outcome → FewBegins was outcome

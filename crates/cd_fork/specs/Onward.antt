@@ -1,5 +1,5 @@
 -- How a domain is taken to its end, and its members with it: what lasts from turn to turn, and how deep what is still to be run lies.
-use Rattle.std.specs.Prelude.{ℕ, ◌-◌, ◌<◌, max, Bool, true, false, List, [], ◌∷◌, length}
+use Rattle.std.specs.Prelude.{ℕ, ◌+◌, ◌-◌, ◌*◌, ◌<◌, max, Bool, true, false, List, [], ◌∷◌, length}
 use Rattle.cd_cover.specs.Plans.{PlanModel}
 use Rattle.cd_core.specs.StateModel.{StateModel}
 use Rattle.cd_core.specs.Fits.{Fits}
@@ -32,12 +32,19 @@ abbrev pub Turned : PlanModel → StateModel → StateModel → Bool → Type 0
 Turned plan old new true = CameBack plan old new
 Turned plan old new false = OnItsWay plan old new × (left_in plan new < left_in plan old)
 
--- ---- how deep
+-- ---- how much is still to be run
 
--- no domain lies deeper below another than so many domains follow it in the program
+-- no more domains lie one below another, from this one on, than follow it in the program
 abbrev pub room_below : PlanModel → StateModel → ℕ
 room_below plan s = length plan.tree.domains - s.node.0
 
 abbrev pub most_below : PlanModel → List StateModel → ℕ
 most_below plan [] = 0
 most_below plan (s ∷ states) = max (room_below plan s) (most_below plan states)
+
+-- a number that is less of a group's members than of their domain, and less of a part of them
+abbrev pub weight_of : PlanModel → StateModel → ℕ
+weight_of plan s = room_below plan s * 1024
+
+abbrev pub weight_of_all : PlanModel → List StateModel → ℕ
+weight_of_all plan states = most_below plan states * 1024 + 2 * length states

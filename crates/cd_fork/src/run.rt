@@ -3,7 +3,7 @@ ghost use Rattle.std.specs.Prelude.{IfOk};
 ghost use Rattle.cd_core.specs.StateLaws.{CanStart};
 ghost use Rattle.cd_fork.specs.Running.{FewBegins, RanTo};
 
-use crate::turns::run_domain;
+use crate::turns::{is_settled, run_domain};
 use cd_base::NoMemory;
 use cd_core::{Outcome, start_root};
 use cd_cover::Plan;
@@ -31,6 +31,7 @@ pub fn run_root<R: Threads + Wait + Sync, F: Field, P: Pass>(
     ensures few { IfOk result (FewBegins (F.model field)) }
 {
     laws::counts_are_at_most_one_more_than_entries();
+    is_settled(plan);
     let root = start_root(alloc, plan, field, pass)?;
     let ended = run_domain(rt, alloc, plan, root, workers)?;
     Ok(ended.finish())

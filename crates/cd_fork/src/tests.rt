@@ -4,6 +4,8 @@ ghost use Rattle.cd_tree.specs.Domains.{root_of};
 ghost use Rattle.cd_tree.specs.Meaning.{initial, node_need};
 ghost use Rattle.cd_tree.specs.Scripts.{IsAccepted};
 ghost use Rattle.cd_foot.specs.Feet.{AreFeet};
+ghost use Rattle.cd_keep.specs.Arcs.{model_of};
+ghost use Rattle.cd_keep.specs.PassModel.{opened};
 ghost use Rattle.cd_tries.specs.Sample.{sample, HasSample};
 ghost use Rattle.cd_core.specs.Fits.{IsHere};
 ghost use Rattle.cd_fork.specs.Sample.{IsLegible, IsRootMachine, LiesInSample};

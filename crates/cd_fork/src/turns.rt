@@ -1,5 +1,6 @@
 // One domain, taken to its end: turn by turn it moves on to its next group, has the members run, and takes them back.
 ghost use Rattle.std.specs.Prelude.{IfOk};
+ghost use Rattle.cd_cover.specs.Plans.{IsPlan};
 ghost use Rattle.cd_core.specs.StateModel.{state_model};
 ghost use Rattle.cd_core.specs.Returning.{CameBack};
 ghost use Rattle.cd_fork.specs.Onward.{CanRun, Turned};
@@ -44,6 +45,7 @@ fn take_turn<R: Threads + Wait + Sync, F: Field, P: Pass>(
     ensures { IfOk result (λ over. Turned plan.now (state_model F.model P.model state.old) (state_model F.model P.model state.new) over) }
 {
     members_come_back();
+    is_settled(plan);
     match advance(rt, alloc, plan, state) {
         Step::Group(children) => {
             let back = run_members(rt, alloc, plan, children, workers)?;
@@ -54,4 +56,11 @@ fn take_turn<R: Threads + Wait + Sync, F: Field, P: Pass>(
         Step::Escalated => Ok(true),
         Step::NoMemory => Err(NoMemory),
     }
+}
+
+/// A plan is sound.
+pub(crate) fn is_settled(plan: &Plan)
+    ensures { IsPlan plan.now }
+{
+    prove!(0 < plan.tree().count());
 }
