@@ -1,11 +1,12 @@
 //! A program, run from its root to its end.
-ghost use Rattle.std.specs.Prelude.{IfOk};
+ghost use Rattle.std.specs.Prelude.{◌≡◌, IfOk};
 ghost use Rattle.cd_core.specs.StateLaws.{CanStart};
+ghost use Rattle.cd_core.specs.Steps.{IsEnded, IsOutcome};
 ghost use Rattle.cd_fork.specs.Running.{FewBegins, RanTo};
 
 use crate::turns::{is_settled, run_domain};
 use cd_base::NoMemory;
-use cd_core::{Outcome, start_root};
+use cd_core::{NodeState, Outcome, start_root};
 use cd_cover::Plan;
 use cd_field::Field;
 use cd_keep::Pass;
@@ -34,5 +35,14 @@ pub fn run_root<R: Threads + Wait + Sync, F: Field, P: Pass>(
     is_settled(plan);
     let root = start_root(alloc, plan, field, pass)?;
     let ended = run_domain(rt, alloc, plan, root, workers)?;
-    Ok(ended.finish())
+    Ok(outcome_of(ended))
+}
+
+// What a root came to that has ended.
+fn outcome_of<F, P: Drop>(root: NodeState<F, P>) -> Outcome<F>
+    requires root { root.node.0 ≡ 0 }
+    requires ended { IsEnded root.stage }
+    ensures { IsOutcome root result root.stage }
+{
+    root.finish()
 }
