@@ -17,12 +17,13 @@ use Rattle.cd_core.specs.declared.state.Outcome.{Outcome}
 use Rattle.cd_core.specs.declared.state.Outcome.TheVariants.{Committed, Exhausted}
 use Rattle.cd_core.specs.declared.state.Stage.{Stage}
 use Rattle.cd_core.specs.declared.state.Stage.TheVariants.{Ready, Waiting, Resumed, Lost, Ended}
-use Rattle.cd_core.specs.Fits.{FitsEnded, FitsStage, IsHere, IsHereAtEnd}
+use Rattle.cd_core.specs.Fits.{Fits, FitsEnded, FitsStage, IsHere, IsHereAtEnd}
 use Rattle.cd_core.specs.Returning.{CameBack}
 use Rattle.cd_core.specs.Stands.{Stands, StandsArrived, StandsAt}
 use Rattle.cd_core.specs.StateModel.{StateModel, state_model}
-use Rattle.cd_core.specs.Steps.{IsOutcome, root_state, root_task}
+use Rattle.cd_core.specs.Steps.{CanMove, IsOutcome, root_state, root_task}
 use Rattle.cd_core.specs.Tasks.{Task, counts_in, task_reading}
+use Rattle.cd_fork.specs.Onward.{CanRun}
 use Rattle.cd_fork.specs.Running.{FewBegins, Ran, RanTo}
 
 -- all is present where the root has ended
@@ -106,6 +107,18 @@ has_run {F} {P} field pass plan was p first s is_plan is stood came =
     let S : StateModel → Type 0 = λ x. Stands plan (root_task plan was) x in
     let C : StateModel → Type 0 = λ x. CameBack plan x (state_model field pass s) in
     record { is_plan = is_plan; stood = subst S is stood; came = subst C is came }
+
+-- the root as it is started can be run
+pub root_can_run : (plan : PlanModel) (was : FieldModel) (p : PassModel) (first : StateModel) → first ≡ root_state plan was p → Fits plan first
+    → CanRun plan first
+root_can_run plan was p first is fits =
+    record { fits = fits; moves = subst CanMove (sym (ap (λ (s : StateModel). s.stage) is)) tt }
+
+-- and what came back is the root
+pub root_came_back : (plan : PlanModel) (was : FieldModel) (p : PassModel) (first s : StateModel) → first ≡ root_state plan was p → CameBack plan first s
+    → s.node.0 ≡ 0
+root_came_back plan was p first s is came =
+    ap (λ (id : NodeId). id.0) came.stays.node ∙ ap (λ (x : StateModel). x.node.0) is
 
 pub ran_to : {F P : Type 0} (field : F → FieldModel) (pass : P → PassModel) (plan : PlanModel) (was : FieldModel) (p : PassModel) (s : NodeState F P)
     (outcome : Outcome F) → RanRoot field pass plan was p s → IsOutcome s outcome s.stage → RanTo field plan was outcome
