@@ -27,9 +27,11 @@ mod Advanced
 mod GroupsGiven
 mod TakenBack
 mod AfterTaking
+mod AfterResuming
 mod FitsTaken
 mod TakenOn
 mod TakesBack
+mod MembersBack
 mod FitsBefore
 mod Courses
 mod FitsTries
