@@ -1,7 +1,6 @@
 //! The engine by `join`: it runs a program from its root to its end, the members of a group at the same time.
 #![tactic(auto)]
 
-mod laws_to_come;
 mod run;
 mod siblings;
 mod turns;

@@ -5,10 +5,9 @@ ghost use Rattle.cd_core.specs.StateModel.{state_model};
 ghost use Rattle.cd_core.specs.Returning.{CameBack};
 ghost use Rattle.cd_fork.specs.Onward.{CanRun, Turned};
 
-use crate::laws_to_come::{advance, members_come_back, resume};
 use crate::siblings::run_members;
 use cd_base::NoMemory;
-use cd_core::{NodeState, Step};
+use cd_core::{NodeState, Step, returning_laws};
 use cd_cover::Plan;
 use cd_field::Field;
 use cd_keep::Pass;
@@ -44,12 +43,12 @@ fn take_turn<R: Threads + Wait + Sync, F: Field, P: Pass>(
     requires { CanRun plan.now (state_model F.model P.model state.old) }
     ensures { IfOk result (λ over. Turned plan.now (state_model F.model P.model state.old) (state_model F.model P.model state.new) over) }
 {
-    members_come_back();
+    returning_laws::members_come_back();
     is_settled(plan);
-    match advance(rt, alloc, plan, state) {
+    match state.advance(rt, alloc, plan) {
         Step::Group(children) => {
             let back = run_members(rt, alloc, plan, children, workers)?;
-            resume(plan, state, back)?;
+            state.resume(plan, back)?;
             Ok(false)
         }
         Step::Done => Ok(true),
