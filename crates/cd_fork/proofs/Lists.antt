@@ -76,10 +76,11 @@ pub record LeftOf (plan : PlanModel) (all left done : List StateModel) : Type 0 
   pub can : EachCanRun plan left
   pub deep : most_below plan left ≤ most_below plan all
 
-pub left_first : (plan : PlanModel) (all done : List StateModel) → done ≡ [] → EachCanRun plan all → LeftOf plan all all done
-left_first plan all done none can =
+pub left_first : (plan : PlanModel) (all left done : List StateModel) → left ≡ all → done ≡ [] → EachCanRun plan all → LeftOf plan all left done
+left_first plan all left done same none can =
+    let L : List StateModel → Type 0 = λ xs. LeftOf plan all xs done in
     let D : List StateModel → Type 0 = λ xs. LeftOf plan all all xs in
-    subst D (sym none) (record { back = λ more came. came; can = can; deep = omega arith })
+    subst L (sym same) (subst D (sym none) (record { back = λ more came. came; can = can; deep = omega arith }))
 
 pub left_next : (plan : PlanModel) (all left done rest : List StateModel) (s : StateModel) → left ≡ s ∷ rest → LeftOf plan all left done
     → CanRun plan s × (room_below plan s ≤ most_below plan all)
@@ -104,8 +105,9 @@ left_more plan all left done rest grown s back is more came l =
       deep = omega (arith, most, deep);
     })
 
-pub left_none : (plan : PlanModel) (all left done : List StateModel) → left ≡ [] → LeftOf plan all left done → EachCameBack plan all done
-left_none plan all left done is l =
-    let Back : List StateModel → Type 0 = λ xs. (ends : List StateModel) → EachCameBack plan xs ends → EachCameBack plan all (done ++ ends) in
+pub left_none : {A : Type 0} (f : A → StateModel) (plan : PlanModel) (all done : List StateModel) (left : List A) → length left ≡ 0
+    → LeftOf plan all (map f left) done → EachCameBack plan all done
+left_none {A} f plan all done [] none l =
     let Whole : List StateModel → Type 0 = λ xs. EachCameBack plan all xs in
-    subst Whole (append-nil done) (subst Back is l.back [] tt)
+    subst Whole (append-nil done) (l.back [] tt)
+left_none {A} f plan all done (x ∷ left) none l = absurd (omega (arith, none))

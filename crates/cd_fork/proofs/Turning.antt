@@ -1,12 +1,17 @@
 -- A domain taken on turn by turn: what lasts from its first state to its last.
-use Rattle.std.proofs.Common.{◌≡◌, ℕ, ◌<◌, ◌≤◌, Bool, true, false, List, refl, ◌∙◌, arith}
-use Rattle.cd_cover.specs.Plans.{PlanModel}
+use Rattle.std.proofs.Common.{◌≡◌, ℕ, ◌<◌, ◌≤◌, Bool, true, false, List, IsSomeAnd, slice_get, refl, ◌∙◌, arith}
+use Rattle.cd_base.proofs.ListLemmas.{some_and}
+use Rattle.cd_tree.specs.declared.domain.Domain.{Domain}
+use Rattle.cd_cover.specs.Plans.{PlanModel, IsPlan}
+use Rattle.cd_core.specs.Advancing.{members_at}
 use Rattle.cd_core.specs.Asks.{EachAnswers}
 use Rattle.cd_core.specs.Fits.{Fits}
-use Rattle.cd_core.specs.Returning.{CameBack, EachCameBack, MembersAnswerStill, Stays, left_in}
+use Rattle.cd_core.specs.Returning.{CameBack, EachCameBack, MembersAnswerStill, MembersCanComeBack, Stays, left_in}
+use Rattle.cd_core.specs.Resuming.{nodes_of}
 use Rattle.cd_core.specs.Stands.{Stands}
+use Rattle.cd_core.specs.StateLaws.{TakesBack}
 use Rattle.cd_core.specs.StateModel.{StateModel}
-use Rattle.cd_core.specs.Steps.{CanMove, IsEnded}
+use Rattle.cd_core.specs.Steps.{Advances, CanMove, IsEnded, sends, waits_at}
 use Rattle.cd_core.specs.Tasks.{Task}
 use Rattle.cd_fork.specs.Onward.{CanRun, OnItsWay, Turned}
 
@@ -52,6 +57,15 @@ pub turned_over : (plan : PlanModel) (sent old new : StateModel) (over : Bool) �
     → CameBack plan sent new
 turned_over plan sent old new true is a turned = way_ends plan sent old new a turned
 turned_over plan sent old new false is a turned = absurd (cc)
+
+-- the members that came back are those of the group at which the domain waits
+pub members_taken : MembersCanComeBack → (plan : PlanModel) (old mid : StateModel) (sent back : List StateModel) → IsPlan plan
+    → Advances plan old mid (sends sent) → Fits plan mid → EachCameBack plan sent back
+    → IsSomeAnd (slice_get plan.tree.domains mid.node.0) (λ domain. nodes_of back ≡ members_at domain (waits_at mid.stage))
+members_taken law plan old mid sent back is_plan advances fits came =
+    let takes : TakesBack plan mid back = law plan old mid sent back is_plan advances fits came in
+    let M : Domain → Type 0 = λ domain. nodes_of back ≡ members_at domain (waits_at mid.stage) in
+    some_and (slice_get plan.tree.domains mid.node.0) M takes.domain takes.is takes.members
 
 -- a domain whose members came back, and were taken
 pub taken_on : MembersAnswerStill → (plan : PlanModel) (old mid new : StateModel) (sent back : List StateModel) → Stays old mid

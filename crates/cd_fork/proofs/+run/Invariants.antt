@@ -9,16 +9,16 @@ use Rattle.cd_fork.proofs.+run.Given as goal
 -- ---- the members
 
 abbrev pub decreases-siblings::run_members : goal.decreases-siblings::run_members
-decreases-siblings::run_members g l = weight_of_all l.plan (map (state_model g.F.Field.model g.P.Pass.model) l.low.items) + 3
+decreases-siblings::run_members g l = weight_of_all l.plan.now (map (state_model g.F.Field.model g.P.Pass.model) l.low.items) + 3
 
 abbrev pub decreases-siblings::run_members-front : goal.decreases-siblings::run_members-front
-decreases-siblings::run_members-front g l = weight_of_all l.plan (map (state_model g.F.Field.model g.P.Pass.model) l.low.items) + 4
+decreases-siblings::run_members-front g l = weight_of_all l.plan.now (map (state_model g.F.Field.model g.P.Pass.model) l.low.items) + 4
 
 abbrev pub decreases-siblings::run_members-back : goal.decreases-siblings::run_members-back
-decreases-siblings::run_members-back g l = weight_of_all l.plan (map (state_model g.F.Field.model g.P.Pass.model) l.high.items) + 4
+decreases-siblings::run_members-back g l = weight_of_all l.plan.now (map (state_model g.F.Field.model g.P.Pass.model) l.high.items) + 4
 
 abbrev pub decreases-siblings::run_in_turn : goal.decreases-siblings::run_in_turn
-decreases-siblings::run_in_turn g l = most_below l.plan (map (state_model g.F.Field.model g.P.Pass.model) l.states.items) * 1024 + 2
+decreases-siblings::run_in_turn g l = most_below l.plan.now (map (state_model g.F.Field.model g.P.Pass.model) l.states.items) * 1024 + 2
 
 -- those that are left give what all of them give
 abbrev pub invariant-siblings::run_in_turn-loop-state : goal.invariant-siblings::run_in_turn-loop-state
@@ -30,10 +30,10 @@ invariant-siblings::run_in_turn-loop-state g l =
 -- ---- one domain
 
 abbrev pub decreases-turns::run_domain : goal.decreases-turns::run_domain
-decreases-turns::run_domain g l = weight_of l.plan (state_model g.F.Field.model g.P.Pass.model l.state) + 1
+decreases-turns::run_domain g l = weight_of l.plan.now (state_model g.F.Field.model g.P.Pass.model l.state) + 1
 
 abbrev pub decreases-turns::take_turn : goal.decreases-turns::take_turn
-decreases-turns::take_turn g l = weight_of l.plan (state_model g.F.Field.model g.P.Pass.model l.state)
+decreases-turns::take_turn g l = weight_of l.plan.now (state_model g.F.Field.model g.P.Pass.model l.state.now)
 
 abbrev pub invariant-turns::run_domain-loop-state : goal.invariant-turns::run_domain-loop-state
 invariant-turns::run_domain-loop-state g l =
