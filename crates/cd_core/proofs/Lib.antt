@@ -24,6 +24,9 @@ mod Commons
 mod EndsStand
 mod Making
 mod Advanced
+mod Unmoved
+mod GoingOn
+mod Answering
 mod GroupsGiven
 mod TakenBack
 mod AfterTaking
@@ -34,6 +37,8 @@ mod TakesBack
 mod MembersBack
 mod FitsBefore
 mod Courses
+mod Ways
+mod TriesLeft
 mod FitsTries
 mod FitsEnds
 mod FitsStart
@@ -61,3 +66,4 @@ mod Moving
 mod GroupTurns
 mod WorkedStates
 mod WorkedReturns
+mod WorkedBounds
