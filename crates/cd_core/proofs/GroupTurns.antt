@@ -1,5 +1,5 @@
 -- What the test of groups rests on: turns follow each other, members come back one after another, and a root that ended is read.
-use Rattle.std.proofs.Common.{◌≡◌, ℕ, ◌||◌, Bool, true, false, List, [], ◌∷◌, ◌++◌, Option, Some, IsSomeAnd, length, slice_get, refl, ap, subst, sym, ◌∙◌, inl, inr, append_assoc}
+use Rattle.std.proofs.Common.{◌≡◌, ℕ, ◌+◌, Bool, true, false, List, [], ◌∷◌, ◌++◌, Option, Some, IsSomeAnd, length, slice_get, refl, ap, subst, sym, ◌∙◌, inl, inr, append_assoc, arith}
 use Rattle.std.proofs.lemmas.Bool.{or_cases}
 use Rattle.std.proofs.lemmas.List.{append-nil}
 use Rattle.cd_base.proofs.ListLemmas.{some_and, some_of}
@@ -111,6 +111,16 @@ all_came plan all left done is on =
     let L : List StateModel → Type 0 = λ xs. (rest : List StateModel) → EachCameBack plan xs rest → EachCameBack plan all (done ++ rest) in
     let E : List StateModel → Type 0 = λ xs. EachCameBack plan all xs in
     subst E (append-nil done) (subst L is on.leads [] tt)
+
+-- a list that is passed from its front has as many left as its length says
+pub none_left : {A : Type 0} (xs : List A) → length xs ≡ 0 → xs ≡ []
+none_left {A} [] none = refl
+none_left {A} (x ∷ xs) none = absurd (omega (arith, none))
+
+pub one_left : {A : Type 0} (x : A) (xs ys : List A) (many less : ℕ) → xs ≡ x ∷ ys → less + 1 ≡ many → many ≡ length xs → less ≡ length ys
+one_left {A} x xs ys many less is gone was =
+    let all : length xs ≡ length (x ∷ ys) = ap (λ (zs : List A). length zs) is in
+    omega (arith, all, gone, was)
 
 -- ---- taking them back
 
