@@ -1,11 +1,21 @@
 -- What the test of groups rests on: turns follow each other, members come back one after another, and a root that ended is read.
-use Rattle.std.proofs.Common.{◌≡◌, ℕ, Bool, true, false, List, [], ◌∷◌, ◌++◌, Option, Some, IsSomeAnd, length, slice_get, refl, ap, subst, sym, ◌∙◌, inr, append_assoc, append-nil}
-use Rattle.cd_base.proofs.ListLemmas.{some_and}
+use Rattle.std.proofs.Common.{◌≡◌, ℕ, ◌+◌, Bool, true, false, List, [], ◌∷◌, ◌++◌, Option, Some, IsSomeAnd, length, slice_get, refl, ap, subst, sym, ◌∙◌, inl, inr, append_assoc, arith}
+use Rattle.std.proofs.lemmas.Bool.{or_cases}
+use Rattle.std.proofs.lemmas.List.{append-nil}
+use Rattle.cd_base.proofs.ListLemmas.{some_and, some_of}
+use Rattle.cd_base.specs.declared.place.Place.{Place}
+use Rattle.cd_base.specs.declared.place.Range.{Range}
+use Rattle.cd_base.specs.Words.{in_ranges}
 use Rattle.cd_tree.specs.declared.domain.NodeId.{NodeId}
 use Rattle.cd_tree.specs.declared.domain.Domain.{Domain}
 use Rattle.cd_tree.specs.Domains.{Node, node, node_of, node_numbers, root_of}
+use Rattle.cd_tree.specs.Meaning.{node_reach, node_reads, node_writes}
+use Rattle.cd_tree.specs.Scripts.{IsAccepted}
 use Rattle.cd_tree.proofs.EachDomain.{root_there}
 use Rattle.cd_tree.proofs.Walk.{length-numbers_from}
+use Rattle.cd_foot.specs.declared.footprints.Foot.{Foot}
+use Rattle.cd_foot.specs.Feet.{IsFoot}
+use Rattle.cd_field.specs.FieldModel.{FieldModel, ArePresent, IsPresent, part_of}
 use Rattle.cd_cover.specs.Plans.{PlanModel, IsPlan}
 use Rattle.cd_core.specs.declared.state.Ending.{Ending}
 use Rattle.cd_core.specs.declared.state.Ending.TheVariants.{Done, Escalated}
@@ -14,7 +24,7 @@ use Rattle.cd_core.specs.declared.state.Stage.TheVariants.{Ended}
 use Rattle.cd_core.specs.Advancing.{members_at}
 use Rattle.cd_core.specs.Asks.{EachAnswers}
 use Rattle.cd_core.specs.Fits.{Fits, FitsEnded, FitsStage, IsHere, IsHereAtEnd}
-use Rattle.cd_core.specs.GroupSample.{HasSent, HasTaken, HasTurned, IsOver}
+use Rattle.cd_core.specs.GroupSample.{HasSent, HasTaken, HasTurned, IsOver, IsRootPart}
 use Rattle.cd_core.specs.Resuming.{nodes_of}
 use Rattle.cd_core.specs.Returning.{CameBack, EachCameBack, MembersAnswerStill, MembersCanComeBack, Stays}
 use Rattle.cd_core.specs.StateLaws.{TakesBack}
@@ -23,6 +33,7 @@ use Rattle.cd_core.specs.Stands.{Stands}
 use Rattle.cd_core.specs.Steps.{AllFit, CanMove, StandsBehind, sends, waits_at}
 use Rattle.cd_core.specs.Tasks.{Task}
 use Rattle.cd_core.proofs.MembersBack.{ended_so}
+use Rattle.cd_core.proofs.SentFit.{carved_word}
 
 -- ---- turns
 
@@ -101,6 +112,16 @@ all_came plan all left done is on =
     let E : List StateModel → Type 0 = λ xs. EachCameBack plan all xs in
     subst E (append-nil done) (subst L is on.leads [] tt)
 
+-- a list that is passed from its front has as many left as its length says
+pub none_left : {A : Type 0} (xs : List A) → length xs ≡ 0 → xs ≡ []
+none_left {A} [] none = refl
+none_left {A} (x ∷ xs) none = absurd (omega (arith, none))
+
+pub one_left : {A : Type 0} (x : A) (xs ys : List A) (many less : ℕ) → xs ≡ x ∷ ys → less + 1 ≡ many → many ≡ length xs → less ≡ length ys
+one_left {A} x xs ys many less is gone was =
+    let all : length xs ≡ length (x ∷ ys) = ap (λ (zs : List A). length zs) is in
+    omega (arith, all, gone, was)
+
 -- ---- taking them back
 
 pub named_there : (plan : PlanModel) (s : StateModel) (children : List StateModel) → TakesBack plan s children
@@ -148,3 +169,47 @@ root_is_over plan s child is_plan first back =
       counts = back.fits.counts ∙ ap (λ (x : Node). length (node_numbers x)) same
           ∙ ap (λ (ns : List ℕ). length ns) is_plan.program.preorder ∙ length-numbers_from 0 (length plan.tree.domains);
     }
+
+-- ---- the root's part of a machine
+
+-- the footprint of the root is its own
+root_foot : (plan : PlanModel) (feet : List Foot) (foot : Foot) → IsPlan plan → feet ≡ plan.feet → slice_get feet 0 ≡ Some foot
+    → IsFoot (root_of plan.tree.domains) foot
+root_foot plan feet foot is_plan same listed =
+    is_plan.footprints.each (record { 0 = 0 }) (root_of plan.tree.domains) foot (root_there plan.tree.domains is_plan.program.some)
+    (subst (λ (xs : List Foot). slice_get xs 0 ≡ Some foot) same listed)
+
+pub root_word : (plan : PlanModel) (feet : List Foot) (reach : List Range) (m : FieldModel) (q : Place) → IsPlan plan → feet ≡ plan.feet
+    → IsSomeAnd (slice_get feet 0) (λ foot. reach ≡ foot.reach) → IsHere (root_of plan.tree.domains) m → in_ranges reach q ≡ true → IsPresent m q
+root_word plan feet reach m q is_plan same listed here reached =
+    let f : (foot : Foot) × (slice_get feet 0 ≡ Some foot) × (reach ≡ foot.reach) =
+    some_of (slice_get feet 0) (λ (foot : Foot). reach ≡ foot.reach) listed in
+    here q (sym ((root_foot plan feet f.0 is_plan same f.1).reach q) ∙ sym (ap (λ (ranges : List Range). in_ranges ranges q) f.2) ∙ reached)
+
+pub root_part : (plan : PlanModel) (feet other : List Foot) (reads writes : List Range) (whole part : FieldModel) → IsPlan plan → feet ≡ plan.feet
+    → other ≡ plan.feet → IsSomeAnd (slice_get feet 0) (λ foot. reads ≡ foot.reads) → IsSomeAnd (slice_get other 0) (λ foot. writes ≡ foot.writes)
+    → IsAccepted plan.tree whole.script → ArePresent whole reads → ArePresent whole writes → part ≡ part_of whole reads writes
+    → IsRootPart plan part
+root_part plan feet other reads writes whole part is_plan same also reading writing accepted known written is =
+    let d : Node = root_of plan.tree.domains in
+    let f : (foot : Foot) × (slice_get feet 0 ≡ Some foot) × (reads ≡ foot.reads) =
+    some_of (slice_get feet 0) (λ (foot : Foot). reads ≡ foot.reads) reading in
+    let o : (foot : Foot) × (slice_get other 0 ≡ Some foot) × (writes ≡ foot.writes) =
+    some_of (slice_get other 0) (λ (foot : Foot). writes ≡ foot.writes) writing in
+    let read : (q : Place) → in_ranges reads q ≡ node_reads d q =
+    λ q. ap (λ (ranges : List Range). in_ranges ranges q) f.2 ∙ (root_foot plan feet f.0 is_plan same f.1).reads q in
+    let wrote : (q : Place) → in_ranges writes q ≡ node_writes d q =
+    λ q. ap (λ (ranges : List Range). in_ranges ranges q) o.2 ∙ (root_foot plan other o.0 is_plan also o.1).writes q in
+    let there : (q : Place) → node_reach d q ≡ true → IsPresent whole q =
+    λ q reached. elim (or_cases (node_reads d q) (node_writes d q) reached) [
+      inl e ↦ known q (read q ∙ e)
+    | inr e ↦ written q (wrote q ∙ e)
+    ] in
+    let P : FieldModel → Type 0 = λ m. IsRootPart plan m in
+    subst P (sym is) (record {
+      present = λ q reached. record { known = carved_word d whole reads writes q (read q) (wrote q) reached (there q reached).known; here = refl };
+      script = accepted;
+      events = refl;
+      notes = refl;
+      carved = wrote;
+    })

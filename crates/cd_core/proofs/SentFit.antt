@@ -55,7 +55,7 @@ counts_there first id counts size below within =
     length-take-le size (drop (id.0 - first.0) counts) (omega (arith, rest, within))
 
 -- a place that a domain reaches has its word in its part
-carved_word : (d : Node) (m : FieldModel) (reads writes : List Range) (q : Place) → in_ranges reads q ≡ node_reads d q
+pub carved_word : (d : Node) (m : FieldModel) (reads writes : List Range) (q : Place) → in_ranges reads q ≡ node_reads d q
     → in_ranges writes q ≡ node_writes d q → node_reach d q ≡ true → IsSome (m.words q) → IsSome ((part_of m reads writes).words q)
 carved_word d m reads writes q same also reached known =
     let there : (in_ranges reads q || in_ranges writes q) ≡ true =

@@ -384,9 +384,10 @@ fn runs<F: Field, P: Pass, R: Wait>(
 ) -> Result<(), Fail>
     requires { CanStart plan.now (F.model field) (P.model pass) }
 {
-    let state = start_root(alloc, plan, field, pass)?;
-    let state = ends(rt, alloc, plan, state, 2)?;
-    let outcome = outcome_of(plan, state);
+    let _tree = plan.tree();
+    let started = start_root(alloc, plan, field, pass)?;
+    let ended = ends(rt, alloc, plan, started, 2)?;
+    let outcome = outcome_of(plan, ended);
     compare(plan, case, &outcome)
 }
 

@@ -1,5 +1,5 @@
-use Rattle.std.proofs.Common.{◌+◌, ◌*◌, false, map}
-use Rattle.std.specs.Vec.Iter.{into_iter_items}
+use Rattle.std.proofs.Common.{◌≡◌, ◌+◌, ◌*◌, false, length, map}
+use Rattle.std.specs.Vec.Iter.{into_iter_items, into_iter_len}
 use Rattle.cd_core.specs.GroupSample.{HasTurned}
 use Rattle.cd_core.specs.StateModel.{state_model}
 use Rattle.cd_core.proofs.GroupTurns.{ComeOn}
@@ -29,3 +29,4 @@ invariant-all_end-loop-member g l =
     ComeOn l.plan (map (state_model g.F.Field.model g.P.Pass.model) l.fn.sent.items)
     (map (state_model g.F.Field.model g.P.Pass.model) (into_iter_items l.member-iterator))
     (map (state_model g.F.Field.model g.P.Pass.model) l.children.items)
+    × (into_iter_len l.member-iterator ≡ length (into_iter_items l.member-iterator))
