@@ -1,5 +1,5 @@
 -- The lapses that an advance tells are answered: each by a gone answer of its own, for a piece of its link that meets its range.
-use Rattle.std.proofs.Common.{◌≡◌, ℕ, suc, ◌-◌, Bool, true, false, cond, is_none, List, [], ◌∷◌, ◌++◌, Option, Some, IsSomeAnd, slice_get, refl, ap, subst, sym, ◌∙◌, append_assoc}
+use Rattle.std.proofs.Common.{◌≡◌, ℕ, suc, ◌-◌, Bool, true, false, cond, is_none, List, [], ◌∷◌, ◌++◌, Some, slice_get, refl, ap, subst, sym, ◌∙◌, append_assoc}
 use Rattle.std.proofs.lemmas.Grind.{flat_map-append}
 use Rattle.std.proofs.lemmas.List.{append-nil}
 use Rattle.cd_base.specs.declared.place.Range.{Range}
@@ -9,7 +9,6 @@ use Rattle.cd_tree.specs.declared.domain.Entry.{Entry}
 use Rattle.cd_tree.specs.declared.domain.How.{How}
 use Rattle.cd_tree.specs.declared.domain.How.TheVariants.{Copy, Refer, Regen}
 use Rattle.cd_tree.specs.declared.domain.NodeId.{NodeId}
-use Rattle.cd_tree.specs.declared.event.Cause.{Cause}
 use Rattle.cd_tree.specs.declared.event.Event.{Event}
 use Rattle.cd_tree.specs.declared.event.Event.TheVariants.{Begin, Complete, Escalate}
 use Rattle.cd_tree.specs.KindSets.{halting}
@@ -17,7 +16,7 @@ use Rattle.cd_tree.specs.Legal.{entry_at}
 use Rattle.cd_field.specs.FieldModel.{FieldModel, gone_up, told, words_in}
 use Rattle.cd_keep.specs.declared.keep_id.KeepId.{KeepId}
 use Rattle.cd_keep.specs.PassModel.{Gone, PassModel, kept, lapsed}
-use Rattle.cd_cover.specs.Plans.{PlanModel, IsPlan}
+use Rattle.cd_cover.specs.Plans.{PlanModel}
 use Rattle.cd_tries.specs.declared.keep.Keep.{Keep}
 use Rattle.cd_tries.specs.declared.keep.Keep.TheVariants as by
 use Rattle.cd_tries.specs.Keeping.{Known, all_ids}
@@ -28,14 +27,14 @@ use Rattle.cd_tries.proofs.Holding.{shared_all}
 use Rattle.cd_core.specs.declared.state.Stage.{Stage}
 use Rattle.cd_core.specs.declared.verdict.Verdict.{Verdict}
 use Rattle.cd_core.specs.declared.verdict.Verdict.TheVariants.{Waits, Completes, Escalates}
-use Rattle.cd_core.specs.Advancing.{Judged, field_behind, judged_course, means_of, members_at, own_count, pass_behind, put_back_at_root, state_behind}
+use Rattle.cd_core.specs.Advancing.{Judged, field_behind, means_of, members_at, own_count, pass_behind, put_back_at_root, state_behind}
 use Rattle.cd_core.specs.Bounds.{AdvancingAnswersLapses, AnswersItsLapses, EachLapseAnswered, Lapse, lapse_in, lapses_among}
 use Rattle.cd_core.specs.StateModel.{StateModel}
 use Rattle.cd_core.specs.Steps.{AdvancesBy, StepModel, ends_done, ends_escalated, no_memory, sends}
 use Rattle.cd_core.proofs.Apartness.{field_stays, pass_stays}
 use Rattle.cd_core.proofs.Keeping.{StandAt, all_stand, stand_behind, stand_here}
 use Rattle.cd_core.proofs.Lapses.{TellsNone, again_tells, from_tells, given_up, nothing_told, refilled_tells, told_on, tries_tell}
-use Rattle.cd_core.proofs.Ways.{IsSavedFirst, beginning, by_way, first_tries, loss_judged, rest_of_tries, tries_after_loss}
+use Rattle.cd_core.proofs.Ways.{IsSavedFirst, beginning, by_way, first_tries, rest_of_tries, tries_after_loss}
 
 -- ---- events and answers
 
@@ -98,8 +97,9 @@ copies_gone w r k (one ∷ ids) p q h = copies_gone w r (suc k) ids (kept p one 
 abbrev spot_at : PlanModel → StateModel → ℕ → Entry → Words → Spot
 spot_at plan s at entry w = record { node = s.node; at = at; range = entry.range; words = w; link = links_for plan.tree.domains s.node s.above at }
 
-entry_answered : (plan : PlanModel) (s : StateModel) (at : ℕ) (entry : Entry) (how : How) (w : Words) (keep : Keep) (events : List Event) (p q : PassModel)
-    → entry_at plan.tree.domains s.node at ≡ Some entry → SavedAs (spot_at plan s at entry w) how keep events p q → Answered plan s events p.gone q.gone
+entry_answered : (plan : PlanModel) (s : StateModel) (at : ℕ) (entry : Entry) (how : How) (w : Words) (keep : Keep) (events : List Event)
+    (p q : PassModel) → entry_at plan.tree.domains s.node at ≡ Some entry → SavedAs (spot_at plan s at entry w) how keep events p q
+    → Answered plan s events p.gone q.gone
 entry_answered plan s at entry Copy w (by.Copied pieces) events p q is h =
     none_lapsed plan s events p.gone q.gone (ap (λ (es : List Event). lapses_among es) h.1) (copies_gone w entry.range 0 pieces.ids p q h.0.keeps)
 entry_answered plan s at entry Copy w (by.Shared pieces) events p q is h = absurd h
@@ -118,13 +118,14 @@ entry_answered plan s at entry Refer w (by.Shared pieces) events p q is h =
     (ap (λ (v : PassModel). v.gone) h.1 ∙ ap (λ (v : PassModel). v.gone) (shared_all p pieces.ids))
 entry_answered plan s at entry Refer w by.Pattern events p q is h = absurd h
 entry_answered plan s at entry (Regen pattern) w (by.Copied pieces) events p q is h =
-    none_lapsed plan s events p.gone q.gone (ap (λ (es : List Event). lapses_among es) h.said) (copies_gone w entry.range 0 pieces.ids p q h.copy.keeps)
+    none_lapsed plan s events p.gone q.gone (ap (λ (es : List Event). lapses_among es) h.said)
+    (copies_gone w entry.range 0 pieces.ids p q h.copy.keeps)
 entry_answered plan s at entry (Regen pattern) w (by.Shared pieces) events p q is h = absurd h
 entry_answered plan s at entry (Regen pattern) w by.Pattern events p q is h =
     none_lapsed plan s events p.gone q.gone (ap (λ (es : List Event). lapses_among es) h.2) (ap (λ (v : PassModel). v.gone) h.1)
 
-saved_answered : (plan : PlanModel) (s : StateModel) (w : Words) (at : ℕ) (entries : List Entry) (keeps : List Keep) (events : List Event) (p q : PassModel)
-    → StandAt plan s.node at entries → SavedAll s.node w (links_for plan.tree.domains s.node s.above) at entries keeps events p q
+saved_answered : (plan : PlanModel) (s : StateModel) (w : Words) (at : ℕ) (entries : List Entry) (keeps : List Keep) (events : List Event)
+    (p q : PassModel) → StandAt plan s.node at entries → SavedAll s.node w (links_for plan.tree.domains s.node s.above) at entries keeps events p q
     → Answered plan s events p.gone q.gone
 saved_answered plan s w at [] [] events p q stand h =
     none_lapsed plan s events p.gone q.gone (ap (λ (es : List Event). lapses_among es) h.0) (ap (λ (v : PassModel). v.gone) h.1)
@@ -163,7 +164,8 @@ module _ (plan : PlanModel) (s : StateModel) (domain : Domain) (listed : slice_g
       let tried : TellsNone m.events after =
       tries_tell (means_of plan domain s.node q.known keeps) (domain.retry - 1) number m.events t.field t.stop
       (from_tells halts domain m.events m 0 (nothing_told m.events)) in
-      tells_on plan s s.field.events b.events after s.pass.gone s.pass.gone q.gone (tells_none plan s s.field.events b.events s.pass.gone s.pass.gone begin refl)
+      tells_on plan s s.field.events b.events after s.pass.gone s.pass.gone q.gone
+      (tells_none plan s s.field.events b.events s.pass.gone s.pass.gone begin refl)
       (tells_on plan s b.events m.events after s.pass.gone q.gone q.gone kept_all (tells_none plan s m.events after q.gone q.gone tried refl))
 
   rest_tells : (spare point : ℕ) → Tells plan s s.field.events (rest_of_tries plan domain s spare point).field.events s.pass.gone s.pass.gone
@@ -190,8 +192,8 @@ escalated_tells known domain keeps m true =
     told_on m.events n.events (Escalate n.node) (refilled_tells known m.events 0 domain.entries keeps m (nothing_told m.events)) refl refl
 escalated_tells known domain keeps m false = told_on m.events m.events (Escalate m.node) (nothing_told m.events) refl refl
 
-behind_tells : (plan : PlanModel) (s : StateModel) (domain : Domain) (keeps : List Keep) (q : PassModel) (begin : ℕ) (m : FieldModel) (verdict : Verdict)
-    → Tells plan s m.events (state_behind plan domain s keeps q begin m verdict).field.events q.gone
+behind_tells : (plan : PlanModel) (s : StateModel) (domain : Domain) (keeps : List Keep) (q : PassModel) (begin : ℕ) (m : FieldModel)
+    (verdict : Verdict) → Tells plan s m.events (state_behind plan domain s keeps q begin m verdict).field.events q.gone
     (state_behind plan domain s keeps q begin m verdict).pass.gone
 behind_tells plan s domain keeps q begin m (Waits spare point) =
     let ids : List NodeId = members_at domain point in

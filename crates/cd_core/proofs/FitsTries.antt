@@ -120,8 +120,8 @@ covers_still : (known more : Known) (range : Range) (link : Option Pieces) → K
 covers_still known more range None knows covers = covers
 covers_still known more range (Some pieces) knows covers = stays_covered known more pieces range knows covers
 
-module _ (l : MoreLaws) (plan : PlanModel) (s : StateModel) (domain : Domain) (is_plan : IsPlan plan) (listed : slice_get plan.tree.domains s.node.0 ≡ Some domain)
-    (fits : Fits plan s) (view : FitsView plan s domain) where
+module _ (l : MoreLaws) (plan : PlanModel) (s : StateModel) (domain : Domain) (is_plan : IsPlan plan)
+    (listed : slice_get plan.tree.domains s.node.0 ≡ Some domain) (fits : Fits plan s) (view : FitsView plan s domain) where
   abbrev d : Node
   d = view_in plan.tree s.node domain
 
@@ -209,7 +209,8 @@ module _ (l : MoreLaws) (plan : PlanModel) (s : StateModel) (domain : Domain) (i
       → FitsSo stage (Lost spare cause over) s.keeps s.pass (loss_judged s cause over)
   goes_up down have end stage spare cause over lost =
       let at : NodeId = lost.blamed.at in
-      tried_fits s.keeps (own_count s) s.field s.pass stage (Escalates cause over) (loss_left l plan s domain is_plan listed fits view spare cause over lost) (
+      tried_fits s.keeps (own_count s) s.field s.pass stage (Escalates cause over)
+      (loss_left l plan s domain is_plan listed fits view spare cause over lost) (
         record {
           at = at;
           one = or_right (at.0 == s.node.0) (among (body_numbers (body_in plan.tree domain)) at.0) lost.blamed.one;
@@ -222,7 +223,8 @@ module _ (l : MoreLaws) (plan : PlanModel) (s : StateModel) (domain : Domain) (i
   by_stage : PathsGoDown → SlicesHaveTheirNumbers → SlicesEndWithin → (keeps : List Keep) (q : PassModel) (j : Judged) (stage : Stage)
       → TriesSo plan domain s keeps q j s.stage → FitsTried plan d domain (after keeps j.begin j.field q stage) j.verdict
   by_stage down have end keeps q j stage so =
-      by_way plan domain s (FitsSo stage) (from_ready stage) (from_resumed stage) (from_lost stage) (goes_up down have end stage) keeps q j s.stage so view.stage
+      by_way plan domain s (FitsSo stage) (from_ready stage) (from_resumed stage) (from_lost stage) (goes_up down have end stage) keeps q j s.stage
+      so view.stage
 
 -- the law: tries leave a domain that fits
 pub tries_leave_fitting : MoreLaws → PathsGoDown → SlicesHaveTheirNumbers → SlicesEndWithin → TriesFit

@@ -6,7 +6,6 @@ use Rattle.cd_tree.specs.declared.domain.Item.{Item}
 use Rattle.cd_tree.specs.declared.domain.Item.TheVariants as item
 use Rattle.cd_tree.specs.declared.domain.Domain.{Domain}
 use Rattle.cd_tree.specs.declared.event.Cause.{Cause}
-use Rattle.cd_tree.specs.Domains.{Node}
 use Rattle.cd_tree.specs.KindSets.{no_kinds, kinds_without, halting}
 use Rattle.cd_tree.specs.TreeModel.{FitsDomain}
 use Rattle.cd_tree.proofs.View.{domain_fits}
@@ -74,7 +73,8 @@ halted_past : (from detects : ℕ) (m : FieldModel) (halts : ℕ) (b : Bool) →
 halted_past from detects m halts true = tt
 halted_past from detects m halts false = tt
 
-judged_past : (from halts detects : ℕ) (m : FieldModel) (arrival : Arrival) → ArrivesPast from arrival → StopsPast from (judged_at halts detects m arrival).stop
+judged_past : (from halts detects : ℕ) (m : FieldModel) (arrival : Arrival) → ArrivesPast from arrival
+    → StopsPast from (judged_at halts detects m arrival).stop
 judged_past from halts detects m (at.Group point) h = h
 judged_past from halts detects m at.Halt h =
     halted_past from detects m (bit_and m.notes halts) (kinds_without (bit_and m.notes halts) detects == no_kinds)
@@ -100,7 +100,8 @@ again_onwards spare from (Passed leak) here next now later = now
 again_onwards spare from (Failed kinds) here next now later = inr (later kinds)
 again_onwards spare from (Broken kinds over) here next now later = now
 
-tries_onwards : (with : Means) (spare begin from : ℕ) (t : Trial) → StopsPast from t.stop → StopsOnwards spare from (tries_from with spare begin t).course
+tries_onwards : (with : Means) (spare begin from : ℕ) (t : Trial) → StopsPast from t.stop
+    → StopsOnwards spare from (tries_from with spare begin t).course
 tries_onwards with zero begin from t past = inl (refl, past)
 tries_onwards with (suc spare) begin from t past =
     again_onwards (suc spare) from t.stop (comes_to (suc spare) begin t)
@@ -120,8 +121,8 @@ fewer_tries spare more size less fewer within =
     omega (arith, all, within)
 
 -- a domain that waits has come to a group
-waits_for : (plan : PlanModel) (id : NodeId) (course : Course) (spare point : ℕ) (stop : Stop) → verdict_of plan id course.spare stop ≡ Waits spare point
-    → (stop ≡ Group point) × (course.spare ≡ spare)
+waits_for : (plan : PlanModel) (id : NodeId) (course : Course) (spare point : ℕ) (stop : Stop)
+    → verdict_of plan id course.spare stop ≡ Waits spare point → (stop ≡ Group point) × (course.spare ≡ spare)
 waits_for plan id course spare point (Group k) e = (cc, cc)
 waits_for plan id course spare point (Passed leak) e = absurd (cc)
 waits_for plan id course spare point (Failed kinds) e = absurd (cc)
@@ -139,13 +140,14 @@ module _ (plan : PlanModel) (s : StateModel) (domain : Domain) (is_plan : IsPlan
   size = length domain.items
 
   -- tries that can be followed by so many more
-  within_tries : (course : Course) (tries : ℕ) → course.spare < tries → (spare point : ℕ) → verdict_of plan s.node course.spare course.stop ≡ Waits spare point
-      → points_left domain (Waiting spare point) < tries * suc size
+  within_tries : (course : Course) (tries : ℕ) → course.spare < tries → (spare point : ℕ)
+      → verdict_of plan s.node course.spare course.stop ≡ Waits spare point → points_left domain (Waiting spare point) < tries * suc size
   within_tries course tries fewer spare point e =
       let is : (course.stop ≡ Group point) × (course.spare ≡ spare) = waits_for plan s.node course spare point course.stop e in
       fewer_tries spare tries size (size - point) (omega (arith, is.1, fewer)) (omega arith)
 
-  ends_within : (with : Means) (tries begin : ℕ) (t : Trial) → StopsIn with.domain.items t.stop → (tries_from with tries begin t).course.spare < suc tries
+  ends_within : (with : Means) (tries begin : ℕ) (t : Trial) → StopsIn with.domain.items t.stop
+      → (tries_from with tries begin t).course.spare < suc tries
   ends_within with tries begin t stops =
       let ends : EndsIn with.domain.items tries (tries_from with tries begin t).course = tries_end_in with tries begin t stops in
       omega (arith, ends.few)
@@ -156,8 +158,8 @@ module _ (plan : PlanModel) (s : StateModel) (domain : Domain) (is_plan : IsPlan
       let own : FitsDomain plan.tree.kinds plan.tree.domains s.node.0 domain = domain_fits plan.tree is_plan.program s.node domain listed in
       let m : FieldModel = told_all (beginning s) said.events in
       let few : (first_tries plan domain s keeps q said.events).course.spare < suc (domain.retry - 1) =
-      ends_within (means_of plan domain s.node q.known keeps) (domain.retry - 1) (next_begin (own_count s)) (tried_from (halting plan.tree.kinds) domain m 0)
-      (try_stops (halting plan.tree.kinds) domain m 0) in
+      ends_within (means_of plan domain s.node q.known keeps) (domain.retry - 1) (next_begin (own_count s))
+      (tried_from (halting plan.tree.kinds) domain m 0) (try_stops (halting plan.tree.kinds) domain m 0) in
       within_tries (first_tries plan domain s keeps q said.events).course domain.retry (omega (arith, few, own.tries)) spare point e
 
   again_fewer : (left : ℕ) (cause : Cause) (over : ℕ)
@@ -192,7 +194,8 @@ module _ (plan : PlanModel) (s : StateModel) (domain : Domain) (is_plan : IsPlan
   rest_fewer left k resumed spare point e =
       let t : Trial = tried_from (halting plan.tree.kinds) domain s.field (suc k) in
       onwards left k (rest_of_tries plan domain s left k).course resumed.group
-      (tries_onwards (means_of plan domain s.node s.pass.known s.keeps) left (own_count s) (suc k) t (try_past (halting plan.tree.kinds) domain s.field (suc k)))
+      (tries_onwards (means_of plan domain s.node s.pass.known s.keeps) left (own_count s) (suc k) t
+      (try_past (halting plan.tree.kinds) domain s.field (suc k)))
       spare point e
 
 -- ---- an advance
@@ -211,7 +214,8 @@ module _ (plan : PlanModel) (domain : Domain) (old : StateModel) (keeps : List K
   abbrev after : Verdict → StateModel
   after verdict = state_behind plan domain old keeps q j.begin j.field verdict
 
-  goes_by : (step : StepModel) (verdict : Verdict) → j.verdict ≡ verdict → StepIs plan domain sending verdict step → GoesOn plan old (after verdict) step
+  goes_by : (step : StepModel) (verdict : Verdict) → j.verdict ≡ verdict → StepIs plan domain sending verdict step
+      → GoesOn plan old (after verdict) step
   goes_by (sends children) (Waits spare point) e is =
       let less : points_left domain (Waiting spare point) < points_left domain old.stage = fewer spare point e in
       let now : left_in plan (after (Waits spare point)) ≡ points_left domain (Waiting spare point) =
@@ -234,9 +238,11 @@ goes_on_by : MoreLaws → (plan : PlanModel) (old new : StateModel) (step : Step
     → GoesOn plan old new step
 goes_on_by l plan old new step is_plan fits a =
     let view : FitsView plan old a.domain = fits_view l.follows plan old a.domain is_plan a.is fits in
-    let fewer : (spare point : ℕ) → a.judged.verdict ≡ Waits spare point → points_left a.domain (Waiting spare point) < points_left a.domain old.stage =
-    by_way plan a.domain old (FewerLeft plan old a.domain is_plan a.is view) (first_fewer plan old a.domain is_plan a.is view) (rest_fewer plan old a.domain is_plan a.is view)
-    (again_fewer plan old a.domain is_plan a.is view) (loss_fewer plan old a.domain is_plan a.is view) a.keeps a.pass a.judged old.stage a.tried view.stage in
+    let fewer : (spare point : ℕ) → a.judged.verdict ≡ Waits spare point
+    → points_left a.domain (Waiting spare point) < points_left a.domain old.stage =
+    by_way plan a.domain old (FewerLeft plan old a.domain is_plan a.is view) (first_fewer plan old a.domain is_plan a.is view)
+    (rest_fewer plan old a.domain is_plan a.is view) (again_fewer plan old a.domain is_plan a.is view)
+    (loss_fewer plan old a.domain is_plan a.is view) a.keeps a.pass a.judged old.stage a.tried view.stage in
     let G : StateModel → Type 0 = λ x. GoesOn plan old x step in
     subst G (sym a.behind) (goes_by plan a.domain old a.keeps a.pass a.judged a.is fewer step a.judged.verdict refl a.answer)
 

@@ -1,6 +1,6 @@
 -- No lapse is told in the tries of a domain but where its entries are preserved.
 use Rattle.std.proofs.Common.{◌≡◌, ℕ, zero, suc, ◌+◌, ◌==◌, Bool, true, false, cond, bit_and, List, [], ◌∷◌, ◌++◌, drop, refl, ap, sym, ◌∙◌, arith, append_assoc}
-use Rattle.std.specs.List.{count_by, sum_by}
+use Rattle.std.specs.List.{count_by}
 use Rattle.std.proofs.lemmas.Grind.{flat_map-append}
 use Rattle.std.proofs.lemmas.List.{append-nil}
 use Rattle.std.proofs.lemmas.List.Sums.{sum_by-append}
@@ -102,8 +102,8 @@ from_tells halts domain before m point so =
     judged_tells halts domain.detects before r.field r.arrival (run_tells halts before m point (drop point domain.items) so)
 
 -- in putting back
-pub refilled_tells : (known : Known) (before : List Event) (at : ℕ) (entries : List Entry) (keeps : List Keep) (m : FieldModel) → TellsNone before m.events
-    → TellsNone before (refilled_from known at entries keeps m).events
+pub refilled_tells : (known : Known) (before : List Event) (at : ℕ) (entries : List Entry) (keeps : List Keep) (m : FieldModel)
+    → TellsNone before m.events → TellsNone before (refilled_from known at entries keeps m).events
 refilled_tells known before at [] keeps m so = so
 refilled_tells known before at (entry ∷ entries) [] m so = so
 refilled_tells known before at (entry ∷ entries) (keep ∷ keeps) m so =

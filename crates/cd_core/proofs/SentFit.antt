@@ -13,7 +13,7 @@ use Rattle.cd_tree.specs.declared.domain.Domain.{Domain}
 use Rattle.cd_tree.specs.Domains.{Node, node_of, put_first}
 use Rattle.cd_tree.specs.Laws.{NestedViewFollows}
 use Rattle.cd_tree.specs.Locality.{DisjointInPrograms}
-use Rattle.cd_tree.specs.Meaning.{in_entries, node_need, node_reads, node_writes, node_reach, member_writes, entry_need, IsCovered, IsApartFrom, IsDisjoint, MembersApart}
+use Rattle.cd_tree.specs.Meaning.{in_entries, node_need, node_reads, node_writes, node_reach, member_writes, entry_need, IsApartFrom, IsDisjoint, MembersApart}
 use Rattle.cd_tree.specs.Scripts.{IsAccepted}
 use Rattle.cd_tree.specs.Slices.{node_size}
 use Rattle.cd_tree.specs.SliceLaws.{ChildrenFillSlices}

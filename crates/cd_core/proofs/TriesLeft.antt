@@ -1,9 +1,8 @@
 -- What the tries of a domain that fits leave of its machine, its keeps and its pass, from wherever it was.
-use Rattle.std.proofs.Common.{◌≡◌, ℕ, zero, suc, ◌+◌, ◌-◌, List, Some, slice_get, refl, ◌∙◌, arith}
+use Rattle.std.proofs.Common.{◌≡◌, ℕ, suc, ◌+◌, ◌-◌, List, Some, slice_get, refl, ◌∙◌, arith}
 use Rattle.cd_tree.specs.declared.domain.Domain.{Domain}
 use Rattle.cd_tree.specs.declared.event.Cause.{Cause}
 use Rattle.cd_tree.specs.Domains.{Node}
-use Rattle.cd_tree.specs.KindSets.{halting}
 use Rattle.cd_tree.specs.Meaning.{node_need}
 use Rattle.cd_field.specs.FieldModel.{FieldModel, IsPresent}
 use Rattle.cd_keep.specs.PassModel.{PassModel}
@@ -39,8 +38,8 @@ pub record Leaves (plan : PlanModel) (domain : Domain) (s : StateModel) (keeps :
   pub most : q.most ≡ s.pass.most
   pub knows : KnowsMore s.pass.known q.known
 
-module _ (l : MoreLaws) (plan : PlanModel) (s : StateModel) (domain : Domain) (is_plan : IsPlan plan) (listed : slice_get plan.tree.domains s.node.0 ≡ Some domain)
-    (fits : Fits plan s) (view : FitsView plan s domain) where
+module _ (l : MoreLaws) (plan : PlanModel) (s : StateModel) (domain : Domain) (is_plan : IsPlan plan)
+    (listed : slice_get plan.tree.domains s.node.0 ≡ Some domain) (fits : Fits plan s) (view : FitsView plan s domain) where
   abbrev d : Node
   d = view_in plan.tree s.node domain
 
@@ -58,8 +57,8 @@ module _ (l : MoreLaws) (plan : PlanModel) (s : StateModel) (domain : Domain) (i
   }
 
   -- a first begin
-  pub first_left : (keeps : List Keep) (q : PassModel) (saved : FieldModel) (said : IsSavedFirst plan domain s keeps q saved) → FitsStage plan d domain s Ready
-      → Leaves plan domain s keeps (first_tries plan domain s keeps q said.events).field q
+  pub first_left : (keeps : List Keep) (q : PassModel) (saved : FieldModel) (said : IsSavedFirst plan domain s keeps q saved)
+      → FitsStage plan d domain s Ready → Leaves plan domain s keeps (first_tries plan domain s keeps q said.events).field q
       × ArePresentIn domain.entries (first_tries plan domain s keeps q said.events).field
   first_left keeps q saved said ready =
       let number : ℕ = next_begin (own_count s) in
@@ -122,7 +121,8 @@ module _ (l : MoreLaws) (plan : PlanModel) (s : StateModel) (domain : Domain) (i
       (begun_left (tries_after_loss plan domain s spare).field lost.begun lost.room left.still, left.present)
 
   -- a loss that goes on up leaves all as it was
-  pub loss_left : (spare : ℕ) (cause : Cause) (over : ℕ) → FitsStage plan d domain s (Lost spare cause over) → Leaves plan domain s s.keeps s.field s.pass
+  pub loss_left : (spare : ℕ) (cause : Cause) (over : ℕ) → FitsStage plan d domain s (Lost spare cause over)
+      → Leaves plan domain s s.keeps s.field s.pass
   loss_left spare cause over lost = begun_left s.field lost.begun lost.room (record {
     node = lost.begun.here;
     script = refl;
@@ -135,7 +135,9 @@ module _ (l : MoreLaws) (plan : PlanModel) (s : StateModel) (domain : Domain) (i
   abbrev LeavesSo : Stage → List Keep → PassModel → Judged → Type 0
   LeavesSo stage keeps q j = FitsStage plan d domain s stage → Leaves plan domain s keeps j.field q
 
-  pub tries_leave : (keeps : List Keep) (q : PassModel) (j : Judged) → TriesSo plan domain s keeps q j s.stage → Leaves plan domain s keeps j.field q
+  pub tries_leave : (keeps : List Keep) (q : PassModel) (j : Judged) → TriesSo plan domain s keeps q j s.stage
+      → Leaves plan domain s keeps j.field q
   tries_leave keeps q j so =
-      by_way plan domain s LeavesSo (λ ks x saved said ready. (first_left ks x saved said ready).0) (λ spare point resumed. (rest_left spare point resumed).0)
-      (λ spare cause over lost. (again_after_loss spare cause over lost).0) (λ spare cause over lost. loss_left spare cause over lost) keeps q j s.stage so view.stage
+      by_way plan domain s LeavesSo (λ ks x saved said ready. (first_left ks x saved said ready).0)
+      (λ spare point resumed. (rest_left spare point resumed).0) (λ spare cause over lost. (again_after_loss spare cause over lost).0)
+      (λ spare cause over lost. loss_left spare cause over lost) keeps q j s.stage so view.stage

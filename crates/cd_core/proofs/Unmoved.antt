@@ -1,5 +1,5 @@
 -- What an advance leaves as it was: what stays of the state, and of its machine all that lies outside the entries of the domain.
-use Rattle.std.proofs.Common.{◌≡◌, ℕ, ◌-◌, ◌+◌, Bool, true, false, ◌||◌, cond, is_none, List, [], ◌∷◌, Option, Some, length, slice_get, refl, ap, subst, sym, ◌∙◌}
+use Rattle.std.proofs.Common.{◌≡◌, ℕ, Bool, true, false, ◌||◌, cond, is_none, List, [], ◌∷◌, Option, Some, slice_get, refl, ap, subst, sym, ◌∙◌}
 use Rattle.std.specs.Option.{option_map_or}
 use Rattle.std.proofs.lemmas.Bool.{false_from_ne_true, or_right}
 use Rattle.cd_base.specs.declared.place.Place.{Place}
@@ -14,12 +14,11 @@ use Rattle.cd_tree.specs.declared.event.Event.TheVariants.{Complete}
 use Rattle.cd_tree.specs.Domains.{Node, node_of}
 use Rattle.cd_tree.specs.Meaning.{in_entries, node_reach, node_reads, node_writes}
 use Rattle.cd_field.specs.FieldModel.{FieldModel, gone_up, told, without}
-use Rattle.cd_keep.specs.declared.keep_id.KeepId.{KeepId}
 use Rattle.cd_keep.specs.PassModel.{PassModel}
 use Rattle.cd_cover.specs.Plans.{PlanModel, IsPlan}
 use Rattle.cd_tries.specs.declared.keep.Keep.{Keep}
 use Rattle.cd_tries.specs.Keeping.{all_ids}
-use Rattle.cd_tries.specs.Refilling.{gave_up_each, refilled_all}
+use Rattle.cd_tries.specs.Refilling.{refilled_all}
 use Rattle.cd_tries.specs.TryLaws.{PutBack}
 use Rattle.cd_tries.proofs.Holding.{given_up_all}
 use Rattle.cd_core.specs.declared.state.Ending.{Ending}
@@ -28,7 +27,7 @@ use Rattle.cd_core.specs.declared.state.Stage.{Stage}
 use Rattle.cd_core.specs.declared.state.Stage.TheVariants.{Ready, Waiting, Resumed, Lost, Ended}
 use Rattle.cd_core.specs.declared.verdict.Verdict.{Verdict}
 use Rattle.cd_core.specs.declared.verdict.Verdict.TheVariants.{Waits, Completes, Escalates}
-use Rattle.cd_core.specs.Advancing.{Judged, TriesSo, ended, field_behind, members_at, members_of_item, pass_behind, put_back_at_root, state_behind, state_sending}
+use Rattle.cd_core.specs.Advancing.{Judged, TriesSo, ended, field_behind, members_at, members_of_item, pass_behind, state_behind, state_sending}
 use Rattle.cd_core.specs.Asks.{foot_of}
 use Rattle.cd_core.specs.Bounds.{AdvancingStaysInside, SameOutside}
 use Rattle.cd_core.specs.Fits.{Fits}
@@ -40,7 +39,6 @@ use Rattle.cd_core.specs.Steps.{AdvancesBy, CanMove, StepModel, ends_done, ends_
 use Rattle.cd_core.specs.Trying.{FitsTried}
 use Rattle.cd_core.proofs.Advanced.{after_tries, tried_of}
 use Rattle.cd_core.proofs.Apartness.{field_stays, pass_stays}
-use Rattle.cd_core.proofs.Courses.{StillOf}
 use Rattle.cd_core.proofs.Facts.{reach_is}
 use Rattle.cd_core.proofs.Grounds.{view_in}
 use Rattle.cd_core.proofs.Members.{MemberOf, group_members}
@@ -83,14 +81,13 @@ members_there l plan id domain point ids is_plan listed group =
 
 -- ---- by the verdict
 
-module _ (l : MoreLaws) (plan : PlanModel) (is_plan : IsPlan plan) (domain : Domain) (d : Node) (old : StateModel) (keeps : List Keep) (q : PassModel) (begin : ℕ)
-    (m : FieldModel) (listed : slice_get plan.tree.domains old.node.0 ≡ Some domain) (left : Leaves plan domain old keeps m q) where
+module _ (l : MoreLaws) (plan : PlanModel) (is_plan : IsPlan plan) (domain : Domain) (d : Node) (old : StateModel) (keeps : List Keep)
+    (q : PassModel) (begin : ℕ) (m : FieldModel) (listed : slice_get plan.tree.domains old.node.0 ≡ Some domain) (left : Leaves plan domain old keeps m q) where
   -- a state that has ended, on a machine that has kept what tries keep
   ended_unmoved : (n : FieldModel) (ending : Ending) → n.script ≡ old.field.script → n.carved ≡ old.field.carved
       → ((p : Place) → in_entries domain.entries p ≡ false → (n.words p ≡ old.field.words p) × (n.lost p ≡ old.field.lost p))
       → Unmoved domain.entries old (ended old keeps q begin n ending)
   ended_unmoved n ending script carved outside =
-      let given : PassModel = gave_up_each q (all_ids keeps) in
       record {
         stays = record {
           node = refl;
@@ -109,7 +106,8 @@ module _ (l : MoreLaws) (plan : PlanModel) (is_plan : IsPlan plan) (domain : Dom
   escalated_unmoved ending true =
       let n : FieldModel = refilled_all q.known domain.entries keeps m in
       let back : PutBack q.known domain.entries keeps m n = l.laws.back q.known domain.entries keeps m left.still.words left.fit in
-      ended_unmoved (gone_up n) ending (ap (λ (x : FieldModel). x.script) back.same ∙ left.still.script) (ap (λ (x : FieldModel). x.carved) back.same ∙ left.still.carved)
+      ended_unmoved (gone_up n) ending (ap (λ (x : FieldModel). x.script) back.same ∙ left.still.script)
+      (ap (λ (x : FieldModel). x.carved) back.same ∙ left.still.carved)
       (λ p none. ((back.outside p none).0 ∙ (left.still.outside p none).0, (back.outside p none).1 ∙ (left.still.outside p none).1))
   escalated_unmoved ending false = ended_unmoved (gone_up m) ending left.still.script left.still.carved left.still.outside
 

@@ -44,7 +44,8 @@ abbrev pub loss_judged : StateModel → Cause → ℕ → Judged
 loss_judged s cause over = record { field = s.field; begin = own_count s; verdict = Escalates cause over }
 
 abbrev pub IsSavedFirst : PlanModel → Domain → StateModel → List Keep → PassModel → FieldModel → Type 0
-IsSavedFirst plan domain s keeps q saved = IsPreserved s.node domain (links_for plan.tree.domains s.node s.above) keeps (beginning s) saved s.pass q
+IsSavedFirst plan domain s keeps q saved =
+    IsPreserved s.node domain (links_for plan.tree.domains s.node s.above) keeps (beginning s) saved s.pass q
 
 module _ (plan : PlanModel) (domain : Domain) (s : StateModel) (P : Stage → List Keep → PassModel → Judged → Type 0)
     (first : (keeps : List Keep) (q : PassModel) (saved : FieldModel) (said : IsSavedFirst plan domain s keeps q saved)
@@ -73,7 +74,8 @@ module _ (plan : PlanModel) (domain : Domain) (s : StateModel) (P : Stage → Li
   by_way keeps q j Ready so =
       let J : Judged → Type 0 = λ x. P Ready keeps q x in
       let tries : FieldModel → Judged = λ m. judged_course plan s.node
-      (tries_from (means_of plan domain s.node q.known keeps) (domain.retry - 1) (next_begin (own_count s)) (tried_from (halting plan.tree.kinds) domain m 0)) in
+      (tries_from (means_of plan domain s.node q.known keeps) (domain.retry - 1) (next_begin (own_count s))
+      (tried_from (halting plan.tree.kinds) domain m 0)) in
       subst J (sym (so.tried ∙ ap tries so.preserved.told)) (first keeps q so.saved so.preserved)
   by_way keeps q j (Waiting spare point) so = absurd so
   by_way keeps q j (Resumed spare point) so =

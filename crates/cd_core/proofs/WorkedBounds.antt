@@ -1,5 +1,5 @@
 -- Worked cases of what an advance does not pass over: how many points a domain has left as it goes on, and a lapse with its answer.
-use Rattle.std.proofs.Common.{◌≡◌, ℕ, List, [], ◌∷◌, Some, get_or, refl, arith}
+use Rattle.std.proofs.Common.{◌≡◌, List, [], ◌∷◌, get_or, refl, arith}
 use Rattle.cd_tree.specs.declared.event.Event.{Event}
 use Rattle.cd_tree.specs.declared.event.Event.TheVariants.{Lapsed}
 use Rattle.cd_tree.proofs.WorkedForms.{number, part, referred, begin, reached, saved}
@@ -11,7 +11,9 @@ use Rattle.cd_core.specs.StateModel.{StateModel}
 use Rattle.cd_core.proofs.WorkedStates.{plan, root, id, children, lost, waiting}
 
 -- three tries with a group: six points as it is ready, five at the group of its first try, four when that is lost, three at the next
-points_are : (left_in plan root ≡ 6) × (left_in plan (record root { stage = Waiting 2 0 }) ≡ 5) × (left_in plan lost ≡ 4) × (left_in plan waiting ≡ 3)
+points_are :
+    (left_in plan root ≡ 6) × (left_in plan (record root { stage = Waiting 2 0 }) ≡ 5) × (left_in plan lost ≡ 4)
+    × (left_in plan waiting ≡ 3)
 points_are = (refl, refl, refl, refl)
 
 -- the second member is told that the piece of its link was gone
