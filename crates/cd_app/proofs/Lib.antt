@@ -1,7 +1,10 @@
 pub mod WriteLemmas
 pub mod CallLemmas
 pub mod ToldLemmas
+pub mod LegalLemmas
 pub mod RunLemmas
+pub mod PartLemmas
+pub mod EndLemmas
 pub mod DueLemmas
 pub mod ThereLemmas
 pub mod CountLemmas

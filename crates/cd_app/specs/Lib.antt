@@ -1,5 +1,6 @@
 -- What the contracts of this crate cite. To read first: Deeds, Outcomes, Calls, Due.
 pub mod Running
+pub mod Parting
 pub mod Deeds
 pub mod Outcomes
 pub mod Calls

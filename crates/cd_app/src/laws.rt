@@ -1,6 +1,6 @@
 //! The laws of a whole call, each the contract of a function that does nothing: to call it is to have the law.
 
-ghost use Rattle.cd_app.specs.Due.{OutcomeIsThere, OutcomeIsOne, OutcomeIsGiven, CountsDoNotFall};
+ghost use Rattle.cd_app.specs.Due.{OutcomeIsThere, OutcomeIsOne, OutcomeIsGiven, OwnTextIsOne, CountsDoNotFall};
 ghost use Rattle.cd_app.specs.Lifted.{LiftedIsRefusedAlike, LiftedPassesAlike, LiftedMeansTheSame, LiftedNeedsTheSame, LiftedReadsTheSame, LiftedRunsAlike};
 
 use cd_check::laws;
@@ -24,9 +24,11 @@ pub fn one_outcome_is_due()
 }
 
 /// Where neither the source nor the sink fails and there is memory, a call gives what is due by its words and by the bytes
-/// that the source has: that status, and its text whole. Words that ask for no input ask nothing of the source.
+/// that the source has: that status, and its text whole. Words that ask for no input ask nothing of the source. The text is
+/// known by the outcome, but for the record of a run, which is the machine's own.
 pub fn the_due_outcome_is_given()
-    ensures { OutcomeIsGiven }
+    ensures given { OutcomeIsGiven }
+    ensures text { OwnTextIsOne }
 {}
 
 /// No call lets the count of faults of its source or of its sink fall.
