@@ -31,12 +31,17 @@ use Rattle.cd_cover.specs.Outer.{outer_references}
 use Rattle.cd_cover.specs.OuterLaws.{EntriesAreRead, IsOuter, LiesAbove, OuterAreThese}
 use Rattle.cd_cover.specs.Plans.{PlanModel, IsPlan}
 use Rattle.cd_reading.specs.Through.{begins_in, cause_in}
+use Rattle.cd_core.specs.declared.state.Ending.{Ending}
+use Rattle.cd_core.specs.declared.state.Ending.TheVariants.{Done, Escalated}
+use Rattle.cd_core.specs.declared.state.Outcome.{Outcome}
+use Rattle.cd_core.specs.declared.state.Outcome.TheVariants.{Committed, Exhausted}
 use Rattle.cd_core.specs.Stands.{Sound, ending_of}
 use Rattle.cd_core.specs.Steps.{root_task}
 use Rattle.cd_core.specs.Tasks.{LinksAgree}
+use Rattle.cd_fork.specs.Running.{FewBegins, Ran, RanTo}
 use Rattle.cd_report.specs.Reports.{last_words}
 use Rattle.cd_app.specs.Parts.{IsPassed}
-use Rattle.cd_app.specs.Parting.{IsCarved, HasEnded, why}
+use Rattle.cd_app.specs.Parting.{IsCarved, CanTakeBack, TookBack}
 use Rattle.cd_app.specs.Running.{HoldsRun, HasRun}
 use Rattle.cd_app.proofs.LegalLemmas.{AgreeAtRoot, legal_with}
 use Rattle.cd_app.proofs.PartLemmas.{root_id, part_word, in_part, reads_reach, writes_reach}
@@ -176,6 +181,18 @@ none_lost plan writes carved writing carving p =
 
 -- ---- counts and cause
 
+-- why a domain escalated, where it did
+abbrev why : Ending → Option Cause
+why (Done leak) = None
+why (Escalated cause over) = Some cause
+
+-- a program has run on the root's part of a machine, with these counts and this cause
+pub record HasEnded (plan : PlanModel) (was now : FieldModel) (begins : List ℕ) (cause : Option Cause) : Type 0 where
+  pub ending : Ending
+  pub ran : Ran plan was now begins ending
+  pub few : All (λ (count : ℕ). count ≤ suc (length was.script)) begins
+  pub ends : cause ≡ why ending
+
 cause_is : (plan : PlanModel) (end : NodeEnd) → why (ending_of plan end) ≡ cause_of plan.tree.domains end
 cause_is plan (Completed leak) = refl
 cause_is plan (GoneUp cause over) = refl
@@ -255,7 +272,7 @@ script_few document plan script passed =
     passed.well.few_faults
 
 -- the machine that took the part back holds the run of the document
-pub has_run : (l : EndLaws) (document : Document) (plan : PlanModel) (script : List Fault) (one rest now new : FieldModel) (begins : List ℕ)
+has_run : (l : EndLaws) (document : Document) (plan : PlanModel) (script : List Fault) (one rest now new : FieldModel) (begins : List ℕ)
     (cause : Option Cause) → IsPassed document plan script → IsCarved plan document.regions script one rest
     → HasEnded plan one now begins cause → new ≡ absorbed rest now true → HasRun document script new begins cause
 has_run l document plan script one rest now new begins cause passed carved ended is =
@@ -270,7 +287,7 @@ has_run l document plan script one rest now new begins cause passed carved ended
     (subst (λ (m : FieldModel). HasRun (at_tree document plan.tree) script m begins cause) (sym machine) run)
 
 -- it can take the part back
-pub can_absorb : (l : EndLaws) (document : Document) (plan : PlanModel) (script : List Fault) (one rest now : FieldModel) (begins : List ℕ)
+can_absorb : (l : EndLaws) (document : Document) (plan : PlanModel) (script : List Fault) (one rest now : FieldModel) (begins : List ℕ)
     (cause : Option Cause) → IsCarved plan document.regions script one rest → HasEnded plan one now begins cause → CanAbsorb rest now true
 can_absorb l document plan script one rest now begins cause carved ended =
     let run : Written l document plan script carved.reads carved.writes now begins cause =
@@ -283,3 +300,38 @@ can_absorb l document plan script one rest now begins cause carved ended =
           run.ended.ran.here p (writes_reach (root_of plan.tree.domains) p (sym (carves p) ∙ inside));
     } in
     subst (λ (m : FieldModel). CanAbsorb m now true) (sym carved.left) made
+
+-- ---- by the outcome
+
+-- so it can, whatever the outcome
+pub can_take_back : {F : Type 0} (model : F → FieldModel) (l : EndLaws) (document : Document) (plan : PlanModel) (script : List Fault)
+    (one rest : FieldModel) (outcome : Outcome F) → IsCarved plan document.regions script one rest → RanTo model plan one outcome
+    → FewBegins one outcome → CanTakeBack model rest outcome
+can_take_back {F} model l document plan script one rest (Committed field begins) carved ran few =
+    can_absorb l document plan script one rest (model field) begins None carved
+    (record { ending = Done ran.0; ran = ran.1; few = few; ends = refl })
+can_take_back {F} model l document plan script one rest (Exhausted field begins cause) carved ran few =
+    can_absorb l document plan script one rest (model field) begins (Some cause) carved
+    (record { ending = Escalated cause ran.0; ran = ran.1; few = few; ends = refl })
+
+-- and then it holds the run
+pub took_back_run : {F : Type 0} (model : F → FieldModel) (l : EndLaws) (document : Document) (plan : PlanModel) (script : List Fault)
+    (one rest new : FieldModel) (outcome : Outcome F) (begins : List ℕ) (cause : Option Cause) → IsPassed document plan script
+    → IsCarved plan document.regions script one rest → RanTo model plan one outcome → FewBegins one outcome
+    → TookBack model rest new outcome begins cause → HasRun document script new begins cause
+took_back_run {F} model l document plan script one rest new (Committed field counts) begins cause passed carved ran few took =
+    let ended : HasEnded plan one (model field) begins cause = record {
+      ending = Done ran.0;
+      ran = subst (λ (ns : List ℕ). Ran plan one (model field) ns (Done ran.0)) (sym took.1) ran.1;
+      few = subst (λ (ns : List ℕ). All (λ (n : ℕ). n ≤ suc (length one.script)) ns) (sym took.1) few;
+      ends = took.2;
+    } in
+    has_run l document plan script one rest (model field) new begins cause passed carved ended took.0
+took_back_run {F} model l document plan script one rest new (Exhausted field counts given) begins cause passed carved ran few took =
+    let ended : HasEnded plan one (model field) begins cause = record {
+      ending = Escalated given ran.0;
+      ran = subst (λ (ns : List ℕ). Ran plan one (model field) ns (Escalated given ran.0)) (sym took.1) ran.1;
+      few = subst (λ (ns : List ℕ). All (λ (n : ℕ). n ≤ suc (length one.script)) ns) (sym took.1) few;
+      ends = took.2;
+    } in
+    has_run l document plan script one rest (model field) new begins cause passed carved ended took.0

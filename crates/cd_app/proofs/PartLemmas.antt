@@ -8,7 +8,6 @@ use Rattle.cd_tree.specs.declared.domain.NodeId.{NodeId}
 use Rattle.cd_tree.specs.declared.document.Document.{Document}
 use Rattle.cd_tree.specs.declared.document.Region.{Region}
 use Rattle.cd_tree.specs.declared.document.Fault.{Fault}
-use Rattle.cd_tree.specs.declared.event.Cause.{Cause}
 use Rattle.cd_tree.specs.Domains.{Node, root_of}
 use Rattle.cd_tree.specs.Laws.{CoveredReach}
 use Rattle.cd_tree.specs.Meaning.{initial, node_reads, node_writes, node_reach, IsCovered, LieIn}
@@ -20,13 +19,9 @@ use Rattle.cd_foot.specs.Feet.{IsFoot}
 use Rattle.cd_field.specs.FieldModel.{FieldModel, ArePresent, loaded, part_of}
 use Rattle.cd_cover.specs.Plans.{PlanModel, IsPlan}
 use Rattle.cd_keep.specs.PassModel.{PassModel, opened}
-use Rattle.cd_core.specs.declared.state.Ending.TheVariants.{Done, Escalated}
-use Rattle.cd_core.specs.declared.state.Outcome.{Outcome}
-use Rattle.cd_core.specs.declared.state.Outcome.TheVariants.{Committed, Exhausted}
 use Rattle.cd_core.specs.StateLaws.{CanStart}
-use Rattle.cd_fork.specs.Running.{FewBegins, RanTo}
 use Rattle.cd_app.specs.Parts.{IsPassed}
-use Rattle.cd_app.specs.Parting.{IsCarved, CanRun, HasEnded}
+use Rattle.cd_app.specs.Parting.{IsCarved, CanRun}
 use Rattle.cd_app.specs.Running.{need_of}
 use Rattle.cd_app.proofs.RunLemmas.{ReachIsKnown, reach_known}
 
@@ -144,19 +139,3 @@ can_start plan m p room can is needs =
       room = needs;
     } in
     subst (CanStart plan m) (sym is) made
-
--- what an outcome's parts say
-pub done_parted : {F : Type 0} (model : F → FieldModel) (plan : PlanModel) (was : FieldModel) (outcome : Outcome F) (field : F) (begins : List ℕ)
-    → outcome ≡ Committed field begins → RanTo model plan was outcome → FewBegins was outcome → HasEnded plan was (model field) begins None
-done_parted {F} model plan was outcome field begins is ran few =
-    let there : RanTo model plan was (Committed field begins) = subst (λ (o : Outcome F). RanTo model plan was o) is ran in
-    let least : FewBegins was (Committed field begins) = subst (λ (o : Outcome F). FewBegins was o) is few in
-    record { ending = Done there.0; ran = there.1; few = least; ends = refl }
-
-pub escalated_parted : {F : Type 0} (model : F → FieldModel) (plan : PlanModel) (was : FieldModel) (outcome : Outcome F) (field : F)
-    (begins : List ℕ) (cause : Cause) → outcome ≡ Exhausted field begins cause → RanTo model plan was outcome → FewBegins was outcome
-    → HasEnded plan was (model field) begins (Some cause)
-escalated_parted {F} model plan was outcome field begins cause is ran few =
-    let there : RanTo model plan was (Exhausted field begins cause) = subst (λ (o : Outcome F). RanTo model plan was o) is ran in
-    let least : FewBegins was (Exhausted field begins cause) = subst (λ (o : Outcome F). FewBegins was o) is few in
-    record { ending = Escalated cause there.0; ran = there.1; few = least; ends = refl }

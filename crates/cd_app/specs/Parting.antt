@@ -1,5 +1,5 @@
 -- A loaded machine, of which the root's part runs by itself: carved out, run, and taken back.
-use Rattle.std.specs.Prelude.{◌≡◌, ℕ, suc, ◌≤◌, All, List, [], length, Option, None, Some}
+use Rattle.std.specs.Prelude.{◌≡◌, ℕ, true, List, [], Option, None, Some}
 use Rattle.cd_base.specs.declared.place.Place.{Place}
 use Rattle.cd_base.specs.declared.place.Range.{Range}
 use Rattle.cd_base.specs.Words.{in_ranges}
@@ -10,12 +10,11 @@ use Rattle.cd_tree.specs.Domains.{root_of}
 use Rattle.cd_tree.specs.KindSets.{no_kinds}
 use Rattle.cd_tree.specs.Meaning.{node_reads, node_writes}
 use Rattle.cd_tree.specs.Scripts.{IsAccepted}
-use Rattle.cd_field.specs.FieldModel.{FieldModel, loaded, part_of, without}
+use Rattle.cd_field.specs.FieldModel.{FieldModel, CanAbsorb, loaded, part_of, without, absorbed}
 use Rattle.cd_cover.specs.Plans.{PlanModel, IsPlan}
-use Rattle.cd_core.specs.declared.state.Ending.{Ending}
-use Rattle.cd_core.specs.declared.state.Ending.TheVariants.{Done, Escalated}
+use Rattle.cd_core.specs.declared.state.Outcome.{Outcome}
+use Rattle.cd_core.specs.declared.state.Outcome.TheVariants.{Committed, Exhausted}
 use Rattle.cd_core.specs.Fits.{IsHere}
-use Rattle.cd_fork.specs.Running.{Ran}
 
 -- a machine was loaded, and the part that the root of the plan's program reaches was carved out of it
 pub record IsCarved (plan : PlanModel) (regions : List Region) (script : List Fault) (part rest : FieldModel) : Type 0 where
@@ -27,18 +26,6 @@ pub record IsCarved (plan : PlanModel) (regions : List Region) (script : List Fa
   pub taken : part ≡ part_of (loaded regions script) reads writes
   pub left : rest ≡ without (loaded regions script) writes
 
--- why a domain escalated, where it did
-abbrev pub why : Ending → Option Cause
-why (Done leak) = None
-why (Escalated cause over) = Some cause
-
--- a program has run on the root's part of a machine, and told how often each domain began and why the root escalated, where it did
-pub record HasEnded (plan : PlanModel) (was now : FieldModel) (begins : List ℕ) (cause : Option Cause) : Type 0 where
-  pub ending : Ending
-  pub ran : Ran plan was now begins ending
-  pub few : All (λ (count : ℕ). count ≤ suc (length was.script)) begins
-  pub ends : cause ≡ why ending
-
 -- what a run of the program asks of the part of a machine that its root reaches
 pub record CanRun (plan : PlanModel) (part : FieldModel) : Type 0 where
   pub present : IsHere (root_of plan.tree.domains) part
@@ -46,3 +33,14 @@ pub record CanRun (plan : PlanModel) (part : FieldModel) : Type 0 where
   pub events : part.events ≡ []
   pub notes : part.notes ≡ no_kinds
   pub carved : (p : Place) → in_ranges part.carved p ≡ node_writes (root_of plan.tree.domains) p
+
+-- the part that came back with an outcome can be taken back into the machine that it was carved from
+abbrev pub CanTakeBack : {F : Type 0} → (F → FieldModel) → FieldModel → Outcome F → Type 0
+CanTakeBack model was (Committed part begins) = CanAbsorb was (model part) true
+CanTakeBack model was (Exhausted part begins cause) = CanAbsorb was (model part) true
+
+-- it was taken back, and these are the outcome's counts and cause
+abbrev pub TookBack : {F : Type 0} → (F → FieldModel) → FieldModel → FieldModel → Outcome F → List ℕ → Option Cause → Type 0
+TookBack model was now (Committed part begins) counts cause = (now ≡ absorbed was (model part) true) × (counts ≡ begins) × (cause ≡ None)
+TookBack model was now (Exhausted part begins why) counts cause =
+    (now ≡ absorbed was (model part) true) × (counts ≡ begins) × (cause ≡ Some why)

@@ -1,11 +1,10 @@
 //! A document's program on a machine: the root's part is carved out, the engine runs on it, and it is taken back.
 
-ghost use Rattle.std.specs.Prelude.{IfOk, OnOk};
-ghost use Rattle.cd_field.specs.FieldModel.{FieldModel};
-ghost use Rattle.cd_cover.specs.Plans.{PlanModel};
+ghost use Rattle.std.specs.Prelude.{IfOk};
+ghost use Rattle.cd_core.specs.StateLaws.{CanStart};
 ghost use Rattle.cd_fork.specs.Running.{FewBegins, RanTo};
 ghost use Rattle.cd_app.specs.Parts.{IsPassed};
-ghost use Rattle.cd_app.specs.Parting.{CanRun, HasEnded, IsCarved};
+ghost use Rattle.cd_app.specs.Parting.{CanRun, CanTakeBack, IsCarved, TookBack};
 ghost use Rattle.cd_app.specs.Running.{HasRun};
 
 use crate::need::whole_need;
@@ -14,7 +13,7 @@ use cd_core::Outcome;
 use cd_cover::Plan;
 use cd_field::Field;
 use cd_fork::run_root;
-use cd_keep::ArcPass;
+use cd_keep::{ArcPass, Pass};
 use cd_tree::{Begins, Cause, Document, NodeId, Script, laws};
 use std::alloc::Global;
 use std::sync::Wait;
@@ -39,9 +38,8 @@ pub(crate) fn run_machine<R: Threads + Wait + Sync, F: Field>(
     laws::each_domain_is_as_its_program();
     laws::declared_kinds_are_found_at_the_root();
     let part = root_part(document, plan, script, machine)?;
-    let (field, begins, cause) = run_part(rt, alloc, workers, plan, part)?;
-    machine.absorb(field, true)?;
-    Ok((begins, cause))
+    let outcome = run_part(rt, alloc, workers, plan, part)?;
+    take_back(machine, outcome)
 }
 
 // Loads a machine, and carves out the part that the root reaches.
@@ -69,21 +67,48 @@ fn run_part<R: Threads + Wait + Sync, F: Field>(
     workers: u32,
     plan: &Plan,
     part: F,
-) -> Result<(F, Begins, Option<Cause>), NoMemory>
+) -> Result<Outcome<F>, NoMemory>
     requires { CanRun plan.now (F.model part) }
-    ensures { IfOk result (λ ran. HasEnded plan.now (F.model part) (F.model ran.0) ran.1 ran.2) }
+    ensures ran { IfOk result (RanTo F.model plan.now (F.model part)) }
+    ensures few { IfOk result (FewBegins (F.model part)) }
 {
     let pass = ArcPass::open(alloc, whole_need(plan))?;
-    let outcome = run_root(rt, alloc, plan, part, pass, workers)?;
-    Ok(parted(outcome))
+    run_with(rt, alloc, workers, plan, part, pass)
 }
 
-// The machine of an outcome, its counts, and its cause, where it has one.
-fn parted<F: Field>(outcome: Outcome<F>) -> (F, Begins, Option<Cause>)
-    ensures { (plan : PlanModel) (was : FieldModel) → RanTo F.model plan was outcome → FewBegins was outcome → HasEnded plan was (F.model result.0) result.1 result.2 }
+// Runs it with a pass that has the room.
+fn run_with<R: Threads + Wait + Sync, F: Field, P: Pass>(
+    rt: &R,
+    alloc: Global,
+    workers: u32,
+    plan: &Plan,
+    part: F,
+    pass: P,
+) -> Result<Outcome<F>, NoMemory>
+    requires { CanStart plan.now (F.model part) (P.model pass) }
+    ensures ran { IfOk result (RanTo F.model plan.now (F.model part)) }
+    ensures few { IfOk result (FewBegins (F.model part)) }
+{
+    run_root(rt, alloc, plan, part, pass, workers)
+}
+
+// Takes the root's part back: after a run that committed with the program's words, after one that was exhausted with those that
+// the root restored.
+fn take_back<F: Field>(
+    machine: &mut F,
+    outcome: Outcome<F>,
+) -> Result<(Begins, Option<Cause>), NoMemory>
+    requires { CanTakeBack F.model (F.model machine.old) outcome }
+    ensures { IfOk result (λ ran. TookBack F.model (F.model machine.old) (F.model machine.new) outcome ran.0 ran.1) }
 {
     match outcome {
-        Outcome::Committed(field, begins) => (field, begins, None),
-        Outcome::Exhausted(field, begins, cause) => (field, begins, Some(cause)),
+        Outcome::Committed(part, begins) => {
+            machine.absorb(part, true)?;
+            Ok((begins, None))
+        }
+        Outcome::Exhausted(restored, begins, cause) => {
+            machine.absorb(restored, true)?;
+            Ok((begins, Some(cause)))
+        }
     }
 }

@@ -17,10 +17,10 @@ use Rattle.cd_tokens.specs.Names.{name, path}
 use Rattle.cd_tokens.specs.Kinds.{kind, kind_set, pattern}
 use Rattle.cd_field.specs.FieldModel.{FieldModel}
 use Rattle.cd_app.specs.declared.status.Status.{Status}
-use Rattle.cd_app.specs.declared.status.Status.TheVariants.{Done, Exhausted, Usage, Refused, ReadFault, WriteFault, NoMemory, NotBuilt}
+use Rattle.cd_app.specs.declared.status.Status.TheVariants.{Done, Exhausted, Usage, Refused, ReadFault, WriteFault, NoMemory}
 use Rattle.cd_app.specs.Running.{HoldsRun}
 use Rattle.cd_app.specs.Deeds.{one_document, Accepted, Deed, runs, deed_in}
-use Rattle.cd_app.specs.Outcomes.{Input, whole, too_much, unread, Gave, AcceptsBytes, Outcome, refused, not_read, not_built, Runs, Judged, ComesOfInput, ComesOf, status_of}
+use Rattle.cd_app.specs.Outcomes.{Input, whole, too_much, unread, Gave, AcceptsBytes, Outcome, refused, not_read, ran, Judged, ComesOfInput, ComesOf, status_of}
 use Rattle.cd_app.specs.Calls.{Call, Leaves, Ends, by_text, by_line, standing, Meets}
 use Rattle.cd_app.proofs.RunLemmas.{regions_present}
 use Rattle.cd_tests.specs.Look.{regions_in, four_words, HasFourWords, HasFourWordsLeft, FourArePresent, IsRun, comes_behind_a_run}
@@ -37,26 +37,22 @@ not_by_line : (outcome other : Outcome) → outcome ≡ other → standing (stat
 not_by_line outcome other same line text =
     let wrong : by_line ≡ by_text = sym line ∙ sym (ap (λ (o : Outcome). standing (status_of o)) same) ∙ text in cc
 
--- what comes of an accepted input, and is told by a text, has run
-accepted_ran : (call : Call) (with_record : Bool) (input : Accepted) (outcome : Outcome)
-    → Gave call.source_was call.source_now one_document.limit (whole input.bytes) → AcceptsBytes one_document input → Runs with_record input outcome
-    → Leaves call outcome → standing (status_of outcome) ≡ by_text → HasRun call
-accepted_ran call with_record input outcome gave accepts (inl (built, is)) leaves text =
-    record { input = input; gave = gave; read = accepts.read; holds = subst (λ (o : Outcome). Leaves call o) is leaves }
-accepted_ran call with_record input outcome gave accepts (inr (unbuilt, is)) leaves text =
-    absurd (not_by_line outcome not_built is refl text)
-
+-- what comes of bytes that are to run, and is told by a text, has run
 whole_ran : (call : Call) (with_record : Bool) (bytes : List ℕ) (outcome : Outcome)
-    → Gave call.source_was call.source_now one_document.limit (whole bytes) → Judged one_document bytes (Runs with_record) outcome
+    → Gave call.source_was call.source_now one_document.limit (whole bytes) → Judged one_document bytes (λ input. ran with_record input) outcome
     → Leaves call outcome → standing (status_of outcome) ≡ by_text → HasRun call
 whole_ran call with_record bytes outcome gave (inl (document, refusal, refuses, is)) leaves text =
     absurd (not_by_line outcome (refused document refusal) is refl text)
-whole_ran call with_record bytes outcome gave (inr (input, same, accepts, runs_on)) leaves text =
-    accepted_ran call with_record input outcome
-    (subst (λ (l : List ℕ). Gave call.source_was call.source_now one_document.limit (whole l)) (sym same) gave) accepts runs_on leaves text
+whole_ran call with_record bytes outcome gave (inr (input, same, accepts, is)) leaves text =
+    record {
+      input = input;
+      gave = subst (λ (l : List ℕ). Gave call.source_was call.source_now one_document.limit (whole l)) (sym same) gave;
+      read = accepts.read;
+      holds = subst (λ (o : Outcome). Leaves call o) is leaves;
+    }
 
 input_ran : (call : Call) (with_record : Bool) (input : Input) (outcome : Outcome) → Gave call.source_was call.source_now one_document.limit input
-    → ComesOfInput one_document (Runs with_record) input outcome → Leaves call outcome → standing (status_of outcome) ≡ by_text
+    → ComesOfInput one_document (λ input. ran with_record input) input outcome → Leaves call outcome → standing (status_of outcome) ≡ by_text
     → HasRun call
 input_ran call with_record (whole bytes) outcome gave comes leaves text = whole_ran call with_record bytes outcome gave comes leaves text
 input_ran call with_record too_much outcome gave comes leaves text =
@@ -79,7 +75,6 @@ has_run call old new with_record Usage run e meets = absurd cc
 has_run call old new with_record (Refused refusal) run e meets = absurd cc
 has_run call old new with_record ReadFault run e meets = absurd cc
 has_run call old new with_record NoMemory run e meets = absurd cc
-has_run call old new with_record NotBuilt run e meets = absurd cc
 
 all_taken : (text bytes : List ℕ) (left : Option (List ℕ)) → Consumes (Some text) left bytes → IsAtEnd left → text ≡ bytes
 all_taken text bytes None c e = elim c [ ]
