@@ -1,6 +1,11 @@
 //! The program `cd`: it hands its words, standard input and standard output to `run_cd`, and ends with the status.
 //!
 //!     $ bin/cd run < examples/leak.cd
+//!     committed
+//!     region y 7 7 7 7
+//!     begins root 2
+//!     begins root/worker 2
+//!     total 4
 #![tactic(auto)]
 
 use cd_app::run_cd;

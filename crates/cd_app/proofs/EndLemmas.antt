@@ -1,5 +1,5 @@
 -- A run's end: the root's part is taken back, and the machine holds the run of the document.
-use Rattle.std.proofs.Common.{◌≡◌, ℕ, suc, ◌+◌, ◌<◌, ◌≤◌, Bool, true, false, ◌||◌, cond, List, Option, None, Some, IsSomeAnd, Contains, All, length, map, refl, ap, subst, sym, ◌∙◌, inl, inr, arith}
+use Rattle.std.proofs.Common.{◌≡◌, ℕ, suc, ◌+◌, ◌<◌, ◌≤◌, Bool, true, false, ◌||◌, cond, List, Option, None, Some, IsSomeAnd, Contains, All, get_or, length, map, refl, ap, subst, sym, ◌∙◌, inl, inr, arith}
 use Rattle.std.proofs.Math.Path.{fun_ext}
 use Rattle.cd_base.proofs.BoolLemmas.{by_test}
 use Rattle.std.proofs.lemmas.List.{length-map}
@@ -211,26 +211,26 @@ abbrev left : Document → List Fault → List Range → FieldModel
 left document script writes = without (loaded document.regions script) writes
 
 -- what the run had for its machine, written out
-pub record Written (l : EndLaws) (document : Document) (plan : PlanModel) (script : List Fault) (reads writes : List Range) (now : FieldModel)
+pub record Written (document : Document) (plan : PlanModel) (script : List Fault) (reads writes : List Range) (now : FieldModel)
     (begins : List ℕ) (cause : Option Cause) : Type 0 where
   pub sound : IsPlan plan
   pub reading : (p : Place) → in_ranges reads p ≡ node_reads (root_of plan.tree.domains) p
   pub writing : (p : Place) → in_ranges writes p ≡ node_writes (root_of plan.tree.domains) p
   pub ended : HasEnded plan (part document script reads writes) now begins cause
 
-carving : (l : EndLaws) (document : Document) (plan : PlanModel) (script : List Fault) (reads writes : List Range) (now : FieldModel)
-    (begins : List ℕ) (cause : Option Cause) → Written l document plan script reads writes now begins cause
+carving : (document : Document) (plan : PlanModel) (script : List Fault) (reads writes : List Range) (now : FieldModel)
+    (begins : List ℕ) (cause : Option Cause) → Written document plan script reads writes now begins cause
     → (p : Place) → in_ranges now.carved p ≡ node_writes (root_of plan.tree.domains) p
-carving l document plan script reads writes now begins cause run p =
+carving document plan script reads writes now begins cause run p =
     ap (λ (rs : List Range). in_ranges rs p) run.ended.ran.carved ∙ run.writing p
 
 holds_run : (l : EndLaws) (document : Document) (plan : PlanModel) (script : List Fault) (reads writes : List Range) (now : FieldModel)
-    (begins : List ℕ) (cause : Option Cause) → Written l document plan script reads writes now begins cause → IsAccepted plan.tree script
+    (begins : List ℕ) (cause : Option Cause) → Written document plan script reads writes now begins cause → IsAccepted plan.tree script
     → HoldsRun (at_tree document plan.tree) script (absorbed (left document script writes) now true)
 holds_run l document plan script reads writes now begins cause run accepted =
     let end : NodeEnd = (reading plan.tree script).answer in
     let was : FieldModel = part document script reads writes in
-    let carves = carving l document plan script reads writes now begins cause run in
+    let carves = carving document plan script reads writes now begins cause run in
     let sound : Sound plan (root_task plan was) now (ending_of plan end) =
     subst (Sound plan (root_task plan was) now) run.ended.ran.ends run.ended.ran.sound in
     record {
@@ -242,7 +242,7 @@ holds_run l document plan script reads writes now begins cause run accepted =
     }
 
 run_at_tree : (l : EndLaws) (document : Document) (plan : PlanModel) (script : List Fault) (reads writes : List Range) (now : FieldModel)
-    (begins : List ℕ) (cause : Option Cause) → Written l document plan script reads writes now begins cause → IsAccepted plan.tree script
+    (begins : List ℕ) (cause : Option Cause) → Written document plan script reads writes now begins cause → IsAccepted plan.tree script
     → length script ≤ faults_limit → HasRun (at_tree document plan.tree) script (absorbed (left document script writes) now true) begins cause
 run_at_tree l document plan script reads writes now begins cause run accepted few =
     let counts : begins ≡ begins_in plan.tree script =
@@ -251,14 +251,14 @@ run_at_tree l document plan script reads writes now begins cause run accepted fe
       holds = holds_run l document plan script reads writes now begins cause run accepted;
       counts = counts;
       total = sum_fits begins (length plan.tree.domains) (length script)
-          (λ k d short. omega (arith, run.ended.few k d short)) (ap length counts ∙ begins_length plan.tree script) run.sound.program.few few;
+          (λ k d short. (let some : get_or begins k d ≤ suc (length script) = run.ended.few k d short in omega (arith, some))) (ap length counts ∙ begins_length plan.tree script) run.sound.program.few few;
       ends = run.ended.ends ∙ ap why run.ended.ran.ends ∙ cause_is plan (reading plan.tree script).answer;
     }
 
-written_out : (l : EndLaws) (document : Document) (plan : PlanModel) (script : List Fault) (one rest now : FieldModel) (begins : List ℕ)
+written_out : (document : Document) (plan : PlanModel) (script : List Fault) (one rest now : FieldModel) (begins : List ℕ)
     (cause : Option Cause) → (carved : IsCarved plan document.regions script one rest) → HasEnded plan one now begins cause
-    → Written l document plan script carved.reads carved.writes now begins cause
-written_out l document plan script one rest now begins cause carved ended = record {
+    → Written document plan script carved.reads carved.writes now begins cause
+written_out document plan script one rest now begins cause carved ended = record {
   sound = carved.sound;
   reading = carved.reading;
   writing = carved.writing;
@@ -282,17 +282,17 @@ has_run l document plan script one rest now new begins cause passed carved ended
     is ∙ ap (λ (m : FieldModel). absorbed m now true) carved.left in
     let run : HasRun (at_tree document plan.tree) script (absorbed (left document script carved.writes) now true) begins cause =
     run_at_tree l document plan script carved.reads carved.writes now begins cause
-    (written_out l document plan script one rest now begins cause carved ended) accepted (script_few document plan script passed) in
+    (written_out document plan script one rest now begins cause carved ended) accepted (script_few document plan script passed) in
     subst (λ (tree : TreeModel). HasRun (at_tree document tree) script new begins cause) passed.planned
     (subst (λ (m : FieldModel). HasRun (at_tree document plan.tree) script m begins cause) (sym machine) run)
 
 -- it can take the part back
-can_absorb : (l : EndLaws) (document : Document) (plan : PlanModel) (script : List Fault) (one rest now : FieldModel) (begins : List ℕ)
+can_absorb : (document : Document) (plan : PlanModel) (script : List Fault) (one rest now : FieldModel) (begins : List ℕ)
     (cause : Option Cause) → IsCarved plan document.regions script one rest → HasEnded plan one now begins cause → CanAbsorb rest now true
-can_absorb l document plan script one rest now begins cause carved ended =
-    let run : Written l document plan script carved.reads carved.writes now begins cause =
-    written_out l document plan script one rest now begins cause carved ended in
-    let carves = carving l document plan script carved.reads carved.writes now begins cause run in
+can_absorb document plan script one rest now begins cause carved ended =
+    let run : Written document plan script carved.reads carved.writes now begins cause =
+    written_out document plan script one rest now begins cause carved ended in
+    let carves = carving document plan script carved.reads carved.writes now begins cause run in
     let made : CanAbsorb (left document script carved.writes) now true = record {
       script = run.ended.ran.script;
       away = λ p inside. ap (λ (b : Bool). b || false) (carved.writing p ∙ sym (carves p) ∙ inside);
@@ -304,14 +304,14 @@ can_absorb l document plan script one rest now begins cause carved ended =
 -- ---- by the outcome
 
 -- so it can, whatever the outcome
-pub can_take_back : {F : Type 0} (model : F → FieldModel) (l : EndLaws) (document : Document) (plan : PlanModel) (script : List Fault)
+pub can_take_back : {F : Type 0} (model : F → FieldModel) (document : Document) (plan : PlanModel) (script : List Fault)
     (one rest : FieldModel) (outcome : Outcome F) → IsCarved plan document.regions script one rest → RanTo model plan one outcome
     → FewBegins one outcome → CanTakeBack model rest outcome
-can_take_back {F} model l document plan script one rest (Committed field begins) carved ran few =
-    can_absorb l document plan script one rest (model field) begins None carved
+can_take_back {F} model document plan script one rest (Committed field begins) carved ran few =
+    can_absorb document plan script one rest (model field) begins None carved
     (record { ending = Done ran.0; ran = ran.1; few = few; ends = refl })
-can_take_back {F} model l document plan script one rest (Exhausted field begins cause) carved ran few =
-    can_absorb l document plan script one rest (model field) begins (Some cause) carved
+can_take_back {F} model document plan script one rest (Exhausted field begins cause) carved ran few =
+    can_absorb document plan script one rest (model field) begins (Some cause) carved
     (record { ending = Escalated cause ran.0; ran = ran.1; few = few; ends = refl })
 
 -- and then it holds the run

@@ -132,7 +132,7 @@ report_is with_record document script m begins cause run =
     let w : Words = last_words document end in
     ap (λ (words : Words). run_text with_record document.tree document.regions words m.events begins cause) run.holds.words
     ∙ ap (λ (counts : List ℕ). run_text with_record document.tree document.regions w m.events counts cause) run.counts
-    ∙ ap (run_text with_record document.tree document.regions w m.events (begins_in document.tree script)) run.ends
+    ∙ ap (λ (why : Option Cause). run_text with_record document.tree document.regions w m.events (begins_in document.tree script) why) run.ends
 
 -- its events are few
 pub record_short : (document : Document) (script : List Fault) (m : FieldModel) → length (record_of document.tree script) < 2 ^ 49
