@@ -7,6 +7,7 @@ pub mod PartLemmas
 pub mod EndLemmas
 pub mod DueLemmas
 pub mod ThereLemmas
+pub mod HeadlineLemmas
 pub mod CountLemmas
 pub mod LiftedLemmas
 mod Worked

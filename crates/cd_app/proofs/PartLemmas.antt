@@ -18,11 +18,8 @@ use Rattle.cd_foot.specs.declared.footprints.Foot.{Foot}
 use Rattle.cd_foot.specs.Feet.{IsFoot}
 use Rattle.cd_field.specs.FieldModel.{FieldModel, ArePresent, loaded, part_of}
 use Rattle.cd_cover.specs.Plans.{PlanModel, IsPlan}
-use Rattle.cd_keep.specs.PassModel.{PassModel, opened}
-use Rattle.cd_core.specs.StateLaws.{CanStart}
 use Rattle.cd_app.specs.Parts.{IsPassed}
 use Rattle.cd_app.specs.Parting.{IsCarved, CanRun}
-use Rattle.cd_app.specs.Running.{need_of}
 use Rattle.cd_app.proofs.RunLemmas.{ReachIsKnown, reach_known}
 
 abbrev pub root_id : NodeId
@@ -122,20 +119,3 @@ can_run document plan script part rest passed known carved =
       carved = carved.writing;
     } in
     subst (CanRun plan) (sym carved.taken) made
-
--- ---- the run
-
--- with a pass that was opened with the room that the root needs
-pub can_start : (plan : PlanModel) (m : FieldModel) (p : PassModel) (room : ℕ) → CanRun plan m → p ≡ opened 0 room
-    → room ≡ need_of plan.tree → CanStart plan m p
-can_start plan m p room can is needs =
-    let made : CanStart plan m (opened 0 room) = record {
-      present = can.present;
-      script = can.script;
-      events = can.events;
-      notes = can.notes;
-      carved = can.carved;
-      holds = record { none = λ id. refl; held = refl };
-      room = needs;
-    } in
-    subst (CanStart plan m) (sym is) made

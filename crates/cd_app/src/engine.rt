@@ -39,7 +39,8 @@ pub(crate) fn run_machine<R: Threads + Wait + Sync, F: Field>(
     laws::declared_kinds_are_found_at_the_root();
     let part = root_part(document, plan, script, machine)?;
     let outcome = run_part(rt, alloc, workers, plan, part)?;
-    take_back(machine, outcome)
+    let ran = take_back(machine, outcome)?;
+    Ok(ran)
 }
 
 // Loads a machine, and carves out the part that the root reaches.
@@ -57,7 +58,8 @@ fn root_part<F: Field>(
     prove!(0 < plan.tree().count());
     machine.load(&document.regions, script)?;
     let feet = plan.feet();
-    machine.carve(feet.reads(NodeId(0)), feet.writes(NodeId(0)))
+    let part = machine.carve(feet.reads(NodeId(0)), feet.writes(NodeId(0)))?;
+    Ok(part)
 }
 
 // Runs the program on the part of a machine that its root reaches, with as much room for copies as the root needs.

@@ -2,7 +2,8 @@
 
 ghost use Rattle.std.specs.Prelude.{◌≡◌, ◌<◌, IsTrue, IfOk, false};
 ghost use Rattle.cd_field.specs.Maps.{machine_of};
-ghost use Rattle.cd_tests.specs.Look.{HasFourWords, HasFourWordsLeft, FourArePresent, IsRun, comes_behind_a_run};
+ghost use Rattle.cd_app.specs.Headline.{comes_of_a_run};
+ghost use Rattle.cd_tests.specs.Look.{HasFourWords, HasFourWordsLeft, FourArePresent, IsRun};
 
 use super::calls::{EXHAUSTED, FILL, RECOVERED, call_joined};
 use cd_app::{Status, run_cd};
@@ -24,8 +25,8 @@ fn run_alone(alloc: Global) -> Result<Words, Fail>
     Ok(words)
 }
 
-fn comes_behind_a_run(status: &Status) -> bool
-    ensures { result ≡ comes_behind_a_run status.now }
+fn comes_of_a_run(status: &Status) -> bool
+    ensures { result ≡ comes_of_a_run status.now }
 {
     matches!(
         status,
@@ -54,8 +55,9 @@ fn runs<R: Threads + Wait + Sync, S: Source, K: Sink, F: Field>(
     ensures { IsTrue result → FourArePresent (F.model machine.new) }
 {
     laws::words_stay();
+    cd_app::laws::a_run_leaves_what_the_reading_gives();
     let status = run_cd(rt, alloc, words, source, sink, machine);
-    comes_behind_a_run(&status)
+    comes_of_a_run(&status)
 }
 
 // The first four words of the machine after the call `run` on a text; none where the run did not come to its end.

@@ -1,14 +1,19 @@
+use Rattle.std.proofs.Common.{Option, subst, sym}
+use Rattle.cd_tree.specs.declared.event.Cause.{Cause}
+use Rattle.cd_app.specs.Running.{HasRun}
 use Rattle.cd_app.proofs.CallLemmas.{no_memory_in_run}
 use Rattle.cd_app.proofs.ToldLemmas.{ran_told}
 use Rattle.cd_app.proofs.run.run_document.Goals as goal
 
 pub returns-in-Ok : goal.returns-in-Ok
 returns-in-Ok g c =
+    let m = g.F.Field.model c.run_machine.new.machine in
     λ call asked read was now.
     ran_told call (g.K.Sink.model c.args.sink.now) (g.K.Sink.model c.report-wrote.new.sink) c.args.asked.with_record c.args.document.now
-    c.args.script.now (g.F.Field.model c.run_machine.new.machine) c.in-Ok.begins c.in-Ok.cause c.status_by.result c.settled.result
+    c.args.script.now m c.in-Ok.begins c.in-Ok.cause c.status_by.result c.settled.result
     c.report-wrote.result asked read c.requires.passes now c.in-Ok.ensures c.status_by.ensures c.settled.ensures
-    (c.report-wrote.ensures c.args.script.now c.in-Ok.ensures)
+    (c.report-wrote.ensures c.args.script.now
+    (subst (λ (cause : Option Cause). HasRun c.args.document.now c.args.script.now m c.in-Ok.begins cause) (sym c.as_ref-told.ensures.value) c.in-Ok.ensures))
 
 pub returns-in-Err : goal.returns-in-Err
 returns-in-Err g c =
