@@ -22,10 +22,8 @@ use Rattle.cd_tree.proofs.Walk.{length-numbers_from}
 use Rattle.cd_script.specs.Acceptance.{AreFoundAs}
 use Rattle.cd_parse.specs.WellRead.{WellRead, IsReadRange, AreReadEntries, AreReadDomains}
 use Rattle.cd_field.specs.FieldModel.{FieldModel, IsPresent}
-use Rattle.cd_reading.specs.Through.{begins_in, cause_in}
-use Rattle.cd_report.specs.Records.{run_text}
-use Rattle.cd_report.specs.Reports.{last_words, report_of}
-use Rattle.cd_app.specs.Running.{HoldsRun, HasRun, ran_text}
+use Rattle.cd_report.specs.Reports.{last_words}
+use Rattle.cd_app.specs.Running.{HoldsRun, HasRun}
 use Rattle.cd_app.proofs.LegalLemmas.{legal_length}
 
 -- ---- the reading's counts
@@ -122,19 +120,7 @@ regions_present law document script m holds k i region found short =
 
 -- ---- the report
 
--- the text that is written of a machine on which a document has run is the report of its own events
-pub report_is : (with_record : Bool) (document : Document) (script : List Fault) (m : FieldModel) (begins : List ℕ) (cause : Option Cause)
-    → HasRun document script m begins cause
-    → run_text with_record document.tree document.regions m.words m.events begins cause ≡ ran_text with_record document script m.events
-unfolding report_of
-report_is with_record document script m begins cause run =
-    let end : NodeEnd = (reading document.tree script).answer in
-    let w : Words = last_words document end in
-    ap (λ (words : Words). run_text with_record document.tree document.regions words m.events begins cause) run.holds.words
-    ∙ ap (λ (counts : List ℕ). run_text with_record document.tree document.regions w m.events counts cause) run.counts
-    ∙ ap (λ (why : Option Cause). run_text with_record document.tree document.regions w m.events (begins_in document.tree script) why) run.ends
-
--- its events are few
+-- the events of a machine on which a document has run are few
 pub record_short : (document : Document) (script : List Fault) (m : FieldModel) → length (record_of document.tree script) < 2 ^ 49
     → HoldsRun document script m → length m.events < 2 ^ 64
 record_short document script m short holds = omega (arith, legal_length holds.legal, short)

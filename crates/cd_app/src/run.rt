@@ -101,6 +101,7 @@ fn run_document<R: Threads + Wait + Sync, K: Sink, F: Field>(
 }
 
 // Writes the report of a run, from the machine's own events.
+#[tactic(auto, unfolding(cd_report::specs::Reports::report_of))]
 fn report<K: Sink, F: Field>(
     alloc: Global,
     document: &Document,

@@ -6,7 +6,7 @@ use Rattle.cd_app.proofs.PartLemmas.{can_run, reads_are, reads_reach, root_known
 use Rattle.cd_app.proofs.engine.root_part.Goals as goal
 
 pub carve-requires-clause-reads : goal.carve-requires-clause-reads
-carve-requires-clause-reads g c κs within =
+carve-requires-clause-reads g c =
     let plan = c.args.plan.now in
     side_present c.args.document.now.regions c.args.script.now plan.tree (g.F.Field.model c.load.new.self) c.reads.result.now
     (node_reads (root_of plan.tree.domains))
@@ -15,7 +15,7 @@ carve-requires-clause-reads g c κs within =
     (reads_are plan c.feet-feet.result.now c.reads.result.now c.tree.ensures.sound c.feet-feet.ensures.value c.reads.ensures) c.in_ok-load.ensures
 
 pub carve-requires-clause-writes : goal.carve-requires-clause-writes
-carve-requires-clause-writes g c κs within =
+carve-requires-clause-writes g c =
     let plan = c.args.plan.now in
     side_present c.args.document.now.regions c.args.script.now plan.tree (g.F.Field.model c.load.new.self) c.writes.result.now
     (node_writes (root_of plan.tree.domains))

@@ -1,6 +1,4 @@
-use Rattle.std.proofs.Common.{List, ℕ, subst}
-use Rattle.cd_base.specs.Ends.{WriteAll}
-use Rattle.cd_app.proofs.RunLemmas.{counts_length, record_short, regions_present, report_is}
+use Rattle.cd_app.proofs.RunLemmas.{counts_length, record_short, regions_present}
 use Rattle.cd_app.proofs.run.report.Goals as goal
 
 pub write_run-requires-clause-present : goal.write_run-requires-clause-present
@@ -18,9 +16,3 @@ write_run-requires-clause-counts g c κs within =
 
 pub write_run-requires-clause-total : goal.write_run-requires-clause-total
 write_run-requires-clause-total g c κs within = c.requires.1.total
-
-pub returns : goal.returns
-returns g c =
-    λ script run.
-    subst (λ (text : List ℕ). WriteAll (g.K.Sink.model c.args.sink.now) (g.K.Sink.model c.write_run.new.sink) text c.write_run.result)
-    (report_is c.args.record_wanted c.args.document.now script (g.F.Field.model c.args.machine.now) c.args.begins.now _ run) c.write_run.ensures
