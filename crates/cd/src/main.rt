@@ -1,7 +1,8 @@
 //! The program `cd`: it hands its words, standard input and standard output to `run_cd`, and ends with the status.
 //!
-//!     $ bin/cd read < examples/leak.cd
+//!     $ bin/cd run < examples/leak.cd
 //!     committed
+//!     region y 7 7 7 7
 //!     begins root 2
 //!     begins root/worker 2
 //!     total 4
@@ -37,7 +38,7 @@ fn main(rt: HostRuntime) -> ExitCode {
     let mut source = StdSource::new(rt.reader());
     let mut sink = StdSink::new(io::writer(&rt));
     let mut machine = ScriptField::empty(alloc);
-    let status = run_cd(alloc, &words, &mut source, &mut sink, &mut machine);
+    let status = run_cd(&rt, alloc, &words, &mut source, &mut sink, &mut machine);
     ExitCode::from(status.code())
 }
 

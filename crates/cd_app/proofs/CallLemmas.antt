@@ -13,9 +13,9 @@ use Rattle.cd_command.specs.CommandLine.{command_in}
 use Rattle.cd_app.specs.declared.receive.Stop.{Stop}
 use Rattle.cd_app.specs.declared.receive.Stop.TheVariants as stop
 use Rattle.cd_app.specs.declared.status.Status.TheVariants.{NoMemory}
-use Rattle.cd_app.specs.Running.{HoldsRun, IsBuilt}
+use Rattle.cd_app.specs.Running.{HoldsRun}
 use Rattle.cd_app.specs.Deeds.{Intake, one_document, Accepted, Deed, makes, says, runs, deed_of, deed_in, intake_of, intake_in}
-use Rattle.cd_app.specs.Outcomes.{Input, whole, too_much, unread, Gave, AcceptsBytes, Outcome, no_command, made, not_read, refused, said, not_built, ran, Runs, ComesOfInput, ComesOf}
+use Rattle.cd_app.specs.Outcomes.{Input, whole, too_much, unread, Gave, AcceptsBytes, Outcome, no_command, made, not_read, refused, said, ran, ComesOfInput, ComesOf}
 use Rattle.cd_app.specs.Calls.{Call, call_of, Comes, Ends, TookWithin, Meets}
 use Rattle.cd_app.specs.Parts.{IsRead, IsNone, Receives, ReadsBytes}
 
@@ -77,7 +77,7 @@ takes_one (Some (runs intake with_record)) takes = some_intake intake one_docume
 -- an outcome that comes of an input, whatever is done with one that is accepted, comes of the call
 of_input : (call : Call) (input : Input) (outcome : Outcome) → intake_in call.words ≡ Some one_document
     → Gave call.source_was call.source_now one_document.limit input
-    → ((Next : Accepted → Outcome → Type 0) → ComesOfInput one_document Next input outcome) → Comes call outcome
+    → ((next : Accepted → Outcome) → ComesOfInput one_document next input outcome) → Comes call outcome
 of_input call input outcome takes gave anyhow = go (deed_in call.words) (takes_one (deed_in call.words) takes)
   where
     go : (deed : Option Deed) → TakesOne deed → ComesOf (Gave call.source_was call.source_now) deed outcome
@@ -85,30 +85,30 @@ of_input call input outcome takes gave anyhow = go (deed_in call.words) (takes_o
     go (Some (makes text)) never = absurd never
     go (Some (says intake text_of)) same =
         subst (λ (i : Intake). ComesOf (Gave call.source_was call.source_now) (Some (says i text_of)) outcome) (sym same)
-        (input, gave, anyhow (λ accepted end. end ≡ said (text_of accepted)))
+        (input, gave, anyhow (λ accepted. said (text_of accepted)))
     go (Some (runs intake with_record)) same =
         subst (λ (i : Intake). ComesOf (Gave call.source_was call.source_now) (Some (runs i with_record)) outcome) (sym same)
-        (input, gave, anyhow (Runs with_record))
+        (input, gave, anyhow (λ accepted. ran with_record accepted))
 
 -- there is no document
 pub none_refused : (call : Call) (refusal : Refusal) → intake_in call.words ≡ Some one_document → call.machine_now ≡ call.machine_was
     → IsNone one_document call.source_was call.source_now (stop.Refused refusal) → Ends call (refused None refusal)
 none_refused call refusal takes now (inl long) =
-    (of_input call too_much (refused None refusal) takes long.0 (λ Next. ap (refused None) long.1), now)
+    (of_input call too_much (refused None refusal) takes long.0 (λ next. ap (refused None) long.1), now)
 none_refused call refusal takes now (inr (bytes, gave, reads)) =
-    (of_input call (whole bytes) (refused None refusal) takes gave (λ Next. inl (None, refusal, reads, refl)), now)
+    (of_input call (whole bytes) (refused None refusal) takes gave (λ next. inl (None, refusal, reads, refl)), now)
 
 -- the source failed
 pub fault_ends : (call : Call) → intake_in call.words ≡ Some one_document → call.machine_now ≡ call.machine_was
     → IsNone one_document call.source_was call.source_now stop.ReadFault → Ends call not_read
-fault_ends call takes now gave = (of_input call unread not_read takes gave (λ Next. refl), now)
+fault_ends call takes now gave = (of_input call unread not_read takes gave (λ next. refl), now)
 
 -- a document is refused
 pub document_refused : (call : Call) (document : Document) (refusal : Refusal) → intake_in call.words ≡ Some one_document
     → call.machine_now ≡ call.machine_was → IsRead one_document call.source_was call.source_now document
     → FirstRefusalOf one_document.questions document (Some refusal) → Ends call (refused (Some document) refusal)
 document_refused call document refusal takes now is first = (
-  of_input call (whole is.bytes) (refused (Some document) refusal) takes is.gave (λ Next. inl (Some document, refusal, (is.read, first), refl)),
+  of_input call (whole is.bytes) (refused (Some document) refusal) takes is.gave (λ next. inl (Some document, refusal, (is.read, first), refl)),
   now,
 )
 
@@ -132,31 +132,21 @@ said_ends call text_of document script asked is passes now = (
   now,
 )
 
--- the engine cannot run it as yet
-pub unbuilt_ends : (call : Call) (with_record : Bool) (document : Document) (script : List Fault)
-    → deed_in call.words ≡ Some (runs one_document with_record) → IsRead one_document call.source_was call.source_now document
-    → Passes document script → (IsBuilt document.tree → ⊥) → call.machine_now ≡ call.machine_was → Ends call not_built
-unbuilt_ends call with_record document script asked is passes unbuilt now = (
-  comes_by call (Some (runs one_document with_record)) not_built asked
-      (whole is.bytes, is.gave, inr (input_of document script is, refl, accepts document script is passes, inr (unbuilt, refl))),
-  now,
-)
-
 -- it is to run
 run_comes : (call : Call) (with_record : Bool) (document : Document) (script : List Fault)
     → deed_in call.words ≡ Some (runs one_document with_record) → (is : IsRead one_document call.source_was call.source_now document)
-    → Passes document script → IsBuilt document.tree → Comes call (ran with_record (input_of document script is))
-run_comes call with_record document script asked is passes built =
+    → Passes document script → Comes call (ran with_record (input_of document script is))
+run_comes call with_record document script asked is passes =
     comes_by call (Some (runs one_document with_record)) (ran with_record (input_of document script is)) asked
-    (whole is.bytes, is.gave, inr (input_of document script is, refl, accepts document script is passes, inl (built, refl)))
+    (whole is.bytes, is.gave, inr (input_of document script is, refl, accepts document script is passes, refl))
 
 -- it has run
 pub ran_ends : (call : Call) (with_record : Bool) (document : Document) (script : List Fault)
     → deed_in call.words ≡ Some (runs one_document with_record) → (is : IsRead one_document call.source_was call.source_now document)
-    → Passes document script → IsBuilt document.tree → HoldsRun document script call.machine_now
+    → Passes document script → HoldsRun document script call.machine_now
     → Ends call (ran with_record (input_of document script is))
-ran_ends call with_record document script asked is passes built holds =
-    (run_comes call with_record document script asked is passes built, holds)
+ran_ends call with_record document script asked is passes holds =
+    (run_comes call with_record document script asked is passes, holds)
 
 -- ---- outcomes without an input
 
@@ -201,13 +191,13 @@ no_memory_for call sink document takes now is = no_memory_yet call sink takes no
 -- in a run
 pub no_memory_in_run : (call : Call) (sink : SinkModel) (with_record : Bool) (document : Document) (script : List Fault)
     → deed_in call.words ≡ Some (runs one_document with_record) → IsRead one_document call.source_was call.source_now document
-    → Passes document script → IsBuilt document.tree → Meets call sink sink NoMemory
-no_memory_in_run call sink with_record document script asked is passes built =
+    → Passes document script → Meets call sink sink NoMemory
+no_memory_in_run call sink with_record document script asked is passes =
     let takes : intake_in call.words ≡ Some one_document = takes_by call.words (runs one_document with_record) one_document asked refl in
     inl (
       (
         took_within call takes (took_of call.source_was call.source_now document is),
-        inr (with_record, input_of document script is, run_comes call with_record document script asked is passes built),
+        inr (with_record, input_of document script is, run_comes call with_record document script asked is passes),
       ),
       refl,
     )

@@ -3,7 +3,7 @@ use Rattle.std.proofs.Common.{◌≡◌, ◌⊎◌, ℕ, ◌≤◌, List, Option
 use Rattle.cd_base.specs.Ends.{SourceModel, SinkModel}
 use Rattle.cd_app.specs.declared.status.Status.{Status}
 use Rattle.cd_app.specs.Deeds.{Intake, Deed, makes, says, runs, deed_in, intake_in}
-use Rattle.cd_app.specs.Outcomes.{Input, whole, too_much, unread, Gave, Outcome, no_command, made, ComesOf, text_of}
+use Rattle.cd_app.specs.Outcomes.{Input, whole, too_much, unread, Gave, Outcome, no_command, made, ComesOf}
 use Rattle.cd_app.specs.Calls.{Call, Leaves, Ends, Standing, by_text, by_line, by_fault, by_memory, standing, TookWithin, Stands}
 use Rattle.cd_app.specs.Due.{CountsDoNotFall}
 

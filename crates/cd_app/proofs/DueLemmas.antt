@@ -1,21 +1,23 @@
 -- What a call comes to is due by the words and by the bytes that the source has; and one outcome is due.
-use Rattle.std.proofs.Common.{◌≡◌, ◌⊎◌, ℕ, ◌+◌, ◌<◌, ◌≤◌, Bool, List, ◌++◌, length, Option, None, Some, Ok, Err, refl, ap, sym, subst, ◌∙◌, inl, inr, arith, append-nil, length-append}
+use Rattle.std.proofs.Common.{◌≡◌, ◌⊎◌, ℕ, ◌+◌, ◌<◌, ◌≤◌, Bool, true, false, List, ◌++◌, length, Option, None, Some, Ok, Err, refl, ap, sym, subst, ◌∙◌, inl, inr, arith, append-nil, length-append}
 use Rattle.std.specs.Prelude.{option_and_then}
 use Rattle.std.specs.Io.KnownBytes.{Consumes, IsAtEnd}
 use Rattle.cd_base.specs.Ends.{SourceModel, SinkModel, Rose}
 use Rattle.cd_tree.specs.declared.document.Document.{Document}
 use Rattle.cd_tree.specs.declared.document.Fault.{Fault}
+use Rattle.cd_tree.specs.declared.event.Event.{Event}
 use Rattle.cd_tree.specs.declared.refusal.Refusal.{Refusal}
 use Rattle.cd_check.specs.Checking.{Question, FirstRefusalOf, Passes}
 use Rattle.cd_check.specs.Laws.{FirstRefusalIsOne, ScriptIsOne}
 use Rattle.cd_parse.specs.Laws.{ParsedIsWellRead}
 use Rattle.cd_parse.specs.Parsing.{parse}
+use Rattle.cd_report.specs.Reports.{report_of}
 use Rattle.cd_app.specs.declared.status.Status.{Status}
-use Rattle.cd_app.specs.declared.status.Status.TheVariants.{Done, Exhausted, Usage, Refused, ReadFault, WriteFault, NoMemory, NotBuilt}
+use Rattle.cd_app.specs.declared.status.Status.TheVariants.{Done, Exhausted, Usage, Refused, ReadFault, WriteFault, NoMemory}
 use Rattle.cd_app.specs.Deeds.{Intake, Accepted, Deed, makes, says, runs, deed_in, intake_of, intake_in}
-use Rattle.cd_app.specs.Outcomes.{Input, whole, too_much, unread, Gave, AreInput, RefusesBytes, AcceptsBytes, Outcome, refused, said, Runs, Judged, ComesOfInput, ComesOf, text_of}
+use Rattle.cd_app.specs.Outcomes.{Input, whole, too_much, unread, Gave, AreInput, RefusesBytes, AcceptsBytes, Outcome, no_command, made, not_read, refused, said, ran, Judged, ComesOfInput, ComesOf, text_of}
 use Rattle.cd_app.specs.Calls.{Call, Ends, Standing, by_text, by_line, by_fault, by_memory, standing, Stands}
-use Rattle.cd_app.specs.Due.{IsDue, Serves, ServesFor, OutcomeIsOne, OutcomeIsGiven, Gives}
+use Rattle.cd_app.specs.Due.{IsDue, Serves, ServesFor, OutcomeIsOne, OutcomeIsGiven, Gives, HasOwnText, OwnTextIsOne}
 
 -- ---- the bytes that a source has
 
@@ -82,7 +84,6 @@ memory_alone (Refused refusal) is = cc
 memory_alone ReadFault is = cc
 memory_alone WriteFault is = cc
 memory_alone NoMemory is = refl
-memory_alone NotBuilt is = cc
 
 -- a call that came to an outcome, and wrote its text whole
 abbrev IsWhole : Call → SinkModel → SinkModel → Status → Type 0
@@ -185,56 +186,59 @@ one_acceptance well script intake one other same p q =
 
 -- ---- one outcome is due
 
--- one thing comes of an accepted input
-abbrev ComesOne : (Accepted → Outcome → Type 0) → Type 0
-ComesOne Next = (input : Accepted) (one other : Outcome) → Next input one → Next input other → one ≡ other
-
-judged_one : ParsedIsWellRead → FirstRefusalIsOne → ScriptIsOne → (intake : Intake) (Next : Accepted → Outcome → Type 0) → ComesOne Next
-    → (bytes : List ℕ) (one other : Outcome) → Judged intake bytes Next one → Judged intake bytes Next other → one ≡ other
-judged_one well refusal script intake Next next bytes one other (inl (d, r, p, is)) (inl (e, s, q, same)) =
+judged_one : ParsedIsWellRead → FirstRefusalIsOne → ScriptIsOne → (intake : Intake) (next : Accepted → Outcome) (bytes : List ℕ)
+    (one other : Outcome) → Judged intake bytes next one → Judged intake bytes next other → one ≡ other
+judged_one well refusal script intake next bytes one other (inl (d, r, p, is)) (inl (e, s, q, same)) =
     is ∙ one_refusal well refusal intake bytes d e r s p q ∙ sym same
-judged_one well refusal script intake Next next bytes one other (inl (d, r, p, is)) (inr (input, taken, q, comes)) =
+judged_one well refusal script intake next bytes one other (inl (d, r, p, is)) (inr (input, taken, q, comes)) =
     absurd (not_refused well refusal intake input d r q (subst (λ (l : List ℕ). RefusesBytes intake l d r) (sym taken) p))
-judged_one well refusal script intake Next next bytes one other (inr (input, taken, p, comes)) (inl (e, s, q, same)) =
+judged_one well refusal script intake next bytes one other (inr (input, taken, p, comes)) (inl (e, s, q, same)) =
     absurd (not_refused well refusal intake input e s p (subst (λ (l : List ℕ). RefusesBytes intake l e s) (sym taken) q))
-judged_one well refusal script intake Next next bytes one other (inr (first, taken, p, comes)) (inr (second, had, q, goes)) =
-    let same : first ≡ second = one_acceptance well script intake first second (taken ∙ sym had) p q in
-    next second one other (subst (λ (input : Accepted). Next input one) same comes) goes
+judged_one well refusal script intake next bytes one other (inr (first, taken, p, comes)) (inr (second, had, q, goes)) =
+    comes ∙ ap next (one_acceptance well script intake first second (taken ∙ sym had) p q) ∙ sym goes
 
-input_one : ParsedIsWellRead → FirstRefusalIsOne → ScriptIsOne → (intake : Intake) (Next : Accepted → Outcome → Type 0) → ComesOne Next
-    → (input : Input) (one other : Outcome) → ComesOfInput intake Next input one → ComesOfInput intake Next input other → one ≡ other
-input_one well refusal script intake Next next (whole bytes) one other p q = judged_one well refusal script intake Next next bytes one other p q
-input_one well refusal script intake Next next too_much one other p q = p ∙ sym q
-input_one well refusal script intake Next next unread one other p q = p ∙ sym q
-
-said_one : (text_of : Accepted → List ℕ) → ComesOne (λ input outcome. outcome ≡ said (text_of input))
-said_one text_of input one other p q = p ∙ sym q
-
-runs_one : (with_record : Bool) → ComesOne (Runs with_record)
-runs_one with_record input one other (inl p) (inl q) = p.1 ∙ sym q.1
-runs_one with_record input one other (inl p) (inr q) = absurd (q.0 p.0)
-runs_one with_record input one other (inr p) (inl q) = absurd (p.0 q.0)
-runs_one with_record input one other (inr p) (inr q) = p.1 ∙ sym q.1
+input_one : ParsedIsWellRead → FirstRefusalIsOne → ScriptIsOne → (intake : Intake) (next : Accepted → Outcome) (input : Input)
+    (one other : Outcome) → ComesOfInput intake next input one → ComesOfInput intake next input other → one ≡ other
+input_one well refusal script intake next (whole bytes) one other p q = judged_one well refusal script intake next bytes one other p q
+input_one well refusal script intake next too_much one other p q = p ∙ sym q
+input_one well refusal script intake next unread one other p q = p ∙ sym q
 
 -- what the account of the bytes gives, and what comes of that
-abbrev ComesOfBytes : List ℕ → Intake → (Accepted → Outcome → Type 0) → Outcome → Type 0
-ComesOfBytes bytes intake Next outcome = (input : Input) × AreInput bytes intake.limit input × ComesOfInput intake Next input outcome
+abbrev ComesOfBytes : List ℕ → Intake → (Accepted → Outcome) → Outcome → Type 0
+ComesOfBytes bytes intake next outcome = (input : Input) × AreInput bytes intake.limit input × ComesOfInput intake next input outcome
 
-bytes_one : ParsedIsWellRead → FirstRefusalIsOne → ScriptIsOne → (bytes : List ℕ) (intake : Intake) (Next : Accepted → Outcome → Type 0)
-    → ComesOne Next → (one other : Outcome) → ComesOfBytes bytes intake Next one → ComesOfBytes bytes intake Next other → one ≡ other
-bytes_one well refusal script bytes intake Next next one other (first, p, comes) (second, q, goes) =
+bytes_one : ParsedIsWellRead → FirstRefusalIsOne → ScriptIsOne → (bytes : List ℕ) (intake : Intake) (next : Accepted → Outcome)
+    (one other : Outcome) → ComesOfBytes bytes intake next one → ComesOfBytes bytes intake next other → one ≡ other
+bytes_one well refusal script bytes intake next one other (first, p, comes) (second, q, goes) =
     let same : first ≡ second = one_input bytes intake.limit first second p q in
-    input_one well refusal script intake Next next second one other
-    (subst (λ (input : Input). ComesOfInput intake Next input one) same comes) goes
+    input_one well refusal script intake next second one other
+    (subst (λ (input : Input). ComesOfInput intake next input one) same comes) goes
 
 deed_one : ParsedIsWellRead → FirstRefusalIsOne → ScriptIsOne → (bytes : List ℕ) (deed : Option Deed) (one other : Outcome)
     → ComesOf (AreInput bytes) deed one → ComesOf (AreInput bytes) deed other → one ≡ other
 deed_one well refusal script bytes None one other p q = p ∙ sym q
 deed_one well refusal script bytes (Some (makes text)) one other p q = p ∙ sym q
 deed_one well refusal script bytes (Some (says intake text_of)) one other p q =
-    bytes_one well refusal script bytes intake (λ input outcome. outcome ≡ said (text_of input)) (said_one text_of) one other p q
+    bytes_one well refusal script bytes intake (λ accepted. said (text_of accepted)) one other p q
 deed_one well refusal script bytes (Some (runs intake with_record)) one other p q =
-    bytes_one well refusal script bytes intake (Runs with_record) (runs_one with_record) one other p q
+    bytes_one well refusal script bytes intake (λ accepted. ran with_record accepted) one other p q
 
 pub outcome_is_one : ParsedIsWellRead → FirstRefusalIsOne → ScriptIsOne → OutcomeIsOne
 outcome_is_one well refusal script words bytes one other p q = deed_one well refusal script bytes (deed_in words) one other p q
+
+-- ---- texts
+
+ran_text_is_one : (with_record : Bool) (input : Accepted) (events others : List Event) → HasOwnText (ran with_record input)
+    → text_of events (ran with_record input) ≡ text_of others (ran with_record input)
+unfolding report_of
+ran_text_is_one true input events others own = absurd (own input refl)
+ran_text_is_one false input events others own = refl
+
+-- no text but a record is of the machine
+pub own_text_is_one : OwnTextIsOne
+own_text_is_one no_command events others own = refl
+own_text_is_one (made text) events others own = refl
+own_text_is_one not_read events others own = refl
+own_text_is_one (refused document refusal) events others own = refl
+own_text_is_one (said text) events others own = refl
+own_text_is_one (ran with_record input) events others own = ran_text_is_one with_record input events others own

@@ -1,27 +1,30 @@
--- What the parts of a run and of a reading want to know of a document that was read.
+-- What the parts of a run and of a reading want to know of a document that was read, and what the report asks.
 use Rattle.std.proofs.Common.{◌≡◌, ℕ, zero, suc, ◌+◌, ◌*◌, ◌^◌, ◌<◌, ◌≤◌, Bool, true, false, ◌||◌, nat_lt, cond, List, [], ◌∷◌, length, get_or, sum, fold, slice_get, Option, None, Some, IsSome, All, refl, ap, subst, sym, ◌∙◌, arith, ◌↔◌}
 use Rattle.std.proofs.lemmas.Bool.Decides.{nat_tests}
+use Rattle.std.proofs.lemmas.List.{length-map}
 use Rattle.cd_base.specs.declared.place.Place.{Place}
 use Rattle.cd_base.specs.Words.{Words, in_range, pattern_word}
 use Rattle.cd_tree.specs.declared.domain.Domain.{Domain}
 use Rattle.cd_tree.specs.declared.domain.Entry.{Entry}
-use Rattle.cd_tree.specs.declared.domain.How.TheVariants as kept
 use Rattle.cd_tree.specs.declared.document.Region.{Region}
 use Rattle.cd_tree.specs.declared.document.RawFault.{RawFault}
 use Rattle.cd_tree.specs.declared.document.Fault.{Fault}
 use Rattle.cd_tree.specs.declared.document.Document.{Document}
-use Rattle.cd_tree.specs.Domains.{root_of, domain_of}
+use Rattle.cd_tree.specs.declared.event.Cause.{Cause}
+use Rattle.cd_tree.specs.Domains.{root_of, domain_of, numbers_from}
 use Rattle.cd_tree.specs.Limits.{domains_limit, faults_limit}
 use Rattle.cd_tree.specs.Laws.{WordsStay, CoveredReach}
 use Rattle.cd_tree.specs.Meaning.{initial, initial_word, in_entries, node_reach, IsCovered}
 use Rattle.cd_tree.specs.TreeModel.{TreeModel}
 use Rattle.cd_tree.specs.Reading.{NodeEnd, Done as Completed, Escalated}
-use Rattle.cd_tree.specs.Record.{reading}
+use Rattle.cd_tree.specs.Record.{reading, record_of}
+use Rattle.cd_tree.proofs.Walk.{length-numbers_from}
 use Rattle.cd_script.specs.Acceptance.{AreFoundAs}
 use Rattle.cd_parse.specs.WellRead.{WellRead, IsReadRange, AreReadEntries, AreReadDomains}
-use Rattle.cd_field.specs.FieldModel.{FieldModel, IsPresent, loaded}
-use Rattle.cd_single.specs.Single.{OnlyCopies}
-use Rattle.cd_app.specs.Running.{HoldsRun, words_at_end}
+use Rattle.cd_field.specs.FieldModel.{FieldModel, IsPresent}
+use Rattle.cd_report.specs.Reports.{last_words}
+use Rattle.cd_app.specs.Running.{HoldsRun, HasRun}
+use Rattle.cd_app.proofs.LegalLemmas.{legal_length}
 
 -- ---- the reading's counts
 
@@ -83,25 +86,24 @@ entries_known regions (entry ∷ entries) p read within =
     (λ here. range_known regions entry p read.0 here)
     (λ there. entries_known regions entries p read.2 there)
 
-root_entries : (regions : List Region) (domains : List Domain) → length domains ≡ 1 → AreReadDomains regions domains
+root_entries : (regions : List Region) (domains : List Domain) → 0 < length domains → AreReadDomains regions domains
     → AreReadEntries regions (domain_of (root_of domains)).entries
-root_entries regions [] one read = absurd (omega (arith, one))
-root_entries regions (domain ∷ []) one read = read.0.entries
-root_entries regions (domain ∷ other ∷ domains) one read = absurd (omega (arith, one))
+root_entries regions [] some read = absurd (omega (arith, some))
+root_entries regions (domain ∷ domains) some read = read.0.entries
 
--- the places that the root reaches are present on a machine that was loaded
-pub reach_present : (law : CoveredReach) (document : Document) (script : List Fault) (m : FieldModel) → WellRead document
-    → length document.tree.domains ≡ 1 → IsCovered (root_of document.tree.domains) → m ≡ loaded document.regions script
-    → (p : Place) → node_reach (root_of document.tree.domains) p ≡ true → IsPresent m p
-reach_present law document script m read one covered is p reached =
-    let known : IsSome (initial document.regions p) =
+-- each place that a program's root reaches has a word at the start
+abbrev pub ReachIsKnown : List Region → TreeModel → Type 0
+ReachIsKnown regions tree = (p : Place) → node_reach (root_of tree.domains) p ≡ true → IsSome (initial regions p)
+
+pub reach_known : (law : CoveredReach) (document : Document) → WellRead document → 0 < length document.tree.domains
+    → IsCovered (root_of document.tree.domains) → ReachIsKnown document.regions document.tree
+reach_known law document read some covered p reached =
     entries_known document.regions (domain_of (root_of document.tree.domains)).entries p
-    (root_entries document.regions document.tree.domains one read.domains) (law (root_of document.tree.domains) p covered reached) in
-    subst (λ (n : FieldModel). IsPresent n p) (sym is) (record { known = known; here = refl })
+    (root_entries document.regions document.tree.domains some read.domains) (law (root_of document.tree.domains) p covered reached)
 
 -- the words that a region has at the start it has at the end
 end_known : (law : WordsStay) (document : Document) (end : NodeEnd) (p : Place) → IsSome (initial document.regions p)
-    → IsSome (words_at_end document end p)
+    → IsSome (last_words document end p)
 end_known law document (Completed leak) p some = law (root_of document.tree.domains) (initial document.regions) p some
 end_known law document (Escalated cause over) p some = some
 
@@ -116,27 +118,16 @@ regions_present law document script m holds k i region found short =
       here = ap (λ (l : Place → Bool). l p) holds.present;
     }
 
--- ---- what the engine can run
+-- ---- the report
 
--- all entries of a domain are copies
-abbrev KeepsCopies : Domain → Type 0
-KeepsCopies domain = All (λ (entry : Entry). entry.how ≡ kept.Copy) domain.entries
+-- the events of a machine on which a document has run are few
+pub record_short : (document : Document) (script : List Fault) (m : FieldModel) → length (record_of document.tree script) < 2 ^ 49
+    → HoldsRun document script m → length m.events < 2 ^ 64
+record_short document script m short holds = omega (arith, legal_length holds.legal, short)
 
-at_zero : (domain : Domain) (k : ℕ) (d : Domain) → k < 1 → get_or (domain ∷ []) k d ≡ domain
-at_zero domain zero d short = refl
-at_zero domain (suc k) d short = absurd (omega (arith, short))
-
-only_one : (domains : List Domain) (root : Domain) → length domains ≡ 1 → slice_get domains 0 ≡ Some root
-    → KeepsCopies root ↔ All KeepsCopies domains
-only_one [] root one is = absurd (omega (arith, one))
-only_one (domain ∷ other ∷ domains) root one is = absurd (omega (arith, one))
-only_one (domain ∷ []) root one is =
-    let same : domain ≡ root = cc in (
-      (λ all k d short. subst KeepsCopies (sym (at_zero domain k d short ∙ same)) all),
-      (λ all. subst KeepsCopies same (all 0 domain (omega arith))),
-    )
-
--- the only domain's entries are copies where those of each domain are
-pub only_root : (tree : TreeModel) (root : Domain) → length tree.domains ≡ 1 → slice_get tree.domains 0 ≡ Some root
-    → All (λ (entry : Entry). entry.how ≡ kept.Copy) root.entries ↔ OnlyCopies tree
-only_root tree root one is = only_one tree.domains root one is
+-- and it has a count for each domain
+pub counts_length : (document : Document) (script : List Fault) (m : FieldModel) (begins : List ℕ) (cause : Option Cause)
+    → HasRun document script m begins cause → length begins ≡ length document.tree.domains
+counts_length document script m begins cause run =
+    ap length run.counts ∙ length-map (numbers_from 0 (length document.tree.domains)) (reading document.tree script).counts
+    ∙ length-numbers_from 0 (length document.tree.domains)

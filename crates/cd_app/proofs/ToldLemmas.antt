@@ -1,5 +1,5 @@
 -- From what a part of the code wrote, and the status that it gave, to what the whole call does.
-use Rattle.std.proofs.Common.{◌≡◌, Bool, ℕ, List, Option, None, Some, Result, Err, refl, ap, subst, ◌∙◌}
+use Rattle.std.proofs.Common.{◌≡◌, Bool, ℕ, List, Option, None, Some, Result, Err, refl, ap, subst, sym, ◌∙◌}
 use Rattle.cd_base.specs.declared.sink.WriteStop.{WriteStop}
 use Rattle.cd_base.specs.Ends.{SinkModel, WriteAll}
 use Rattle.cd_tree.specs.declared.document.Document.{Document}
@@ -9,18 +9,18 @@ use Rattle.cd_tree.specs.declared.refusal.Refusal.{Refusal}
 use Rattle.cd_tree.specs.declared.refusal.Refuse.{Refuse}
 use Rattle.cd_tree.specs.declared.refusal.Refuse.TheVariants as refuse
 use Rattle.cd_check.specs.Checking.{Passes, Checks}
-use Rattle.cd_reading.specs.Through.{cause_in}
-use Rattle.cd_report.specs.Texts.{refusal_line, usage_line, fault_line, not_built_line}
+use Rattle.cd_field.specs.FieldModel.{FieldModel}
+use Rattle.cd_report.specs.Texts.{refusal_line, usage_line, fault_line}
 use Rattle.cd_app.specs.declared.receive.Stop.{Stop}
 use Rattle.cd_app.specs.declared.receive.Stop.TheVariants as stop
 use Rattle.cd_app.specs.declared.status.Status.{Status}
-use Rattle.cd_app.specs.declared.status.Status.TheVariants.{Done, Usage, Refused, ReadFault, NoMemory, NotBuilt}
-use Rattle.cd_app.specs.Running.{HoldsRun, IsBuilt, report_of}
+use Rattle.cd_app.specs.declared.status.Status.TheVariants.{Done, Usage, Refused, ReadFault, NoMemory}
+use Rattle.cd_app.specs.Running.{HasRun, HoldsRun, ran_text}
 use Rattle.cd_app.specs.Deeds.{one_document, Accepted, makes, says, runs, deed_in, intake_in}
-use Rattle.cd_app.specs.Outcomes.{refused, not_read, said, not_built, ran, made, no_command, status_by}
+use Rattle.cd_app.specs.Outcomes.{refused, not_read, said, ran, made, no_command, status_by}
 use Rattle.cd_app.specs.Calls.{Call, Meets}
 use Rattle.cd_app.specs.Parts.{IsRead, IsNone, settled}
-use Rattle.cd_app.proofs.CallLemmas.{input_of, none_refused, fault_ends, document_refused, said_ends, unbuilt_ends, ran_ends, usage_ends, made_ends, no_memory_yet}
+use Rattle.cd_app.proofs.CallLemmas.{input_of, none_refused, fault_ends, document_refused, said_ends, ran_ends, usage_ends, made_ends, no_memory_yet}
 use Rattle.cd_app.proofs.WriteLemmas.{told}
 
 -- ---- there is no document
@@ -72,23 +72,16 @@ said_told {T} call old new text_of document script text status wrote asked read 
     told call old new (said (text_of (input_of document script read))) wrote Done text status said_so refl spells
     (said_ends call text_of document script asked read passes now) wrote_it
 
-pub unbuilt_told : {T : Type 0} (call : Call) (old new : SinkModel) (with_record : Bool) (document : Document) (script : List Fault)
-    (status : Status) (wrote : Result T WriteStop) → deed_in call.words ≡ Some (runs one_document with_record)
-    → IsRead one_document call.source_was call.source_now document → Passes document script → (IsBuilt document.tree → ⊥)
-    → call.machine_now ≡ call.machine_was → status ≡ settled wrote NotBuilt → WriteAll old new not_built_line wrote
-    → Meets call old new status
-unbuilt_told {T} call old new with_record document script status wrote asked read passes unbuilt now said_so wrote_it =
-    told call old new not_built wrote NotBuilt not_built_line status said_so refl refl
-    (unbuilt_ends call with_record document script asked read passes unbuilt now) wrote_it
-
+-- a run, on a machine that is known as the one after it
 pub ran_told : {T : Type 0} (call : Call) (old new : SinkModel) (with_record : Bool) (document : Document) (script : List Fault)
-    (cause : Option Cause) (given status : Status) (wrote : Result T WriteStop) → deed_in call.words ≡ Some (runs one_document with_record)
-    → IsRead one_document call.source_was call.source_now document → Passes document script → IsBuilt document.tree
-    → HoldsRun document script call.machine_now → cause ≡ cause_in document.tree script → given ≡ status_by cause
-    → status ≡ settled wrote given → WriteAll old new (report_of with_record document script) wrote → Meets call old new status
-ran_told {T} call old new with_record document script cause given status wrote asked read passes built holds ending by said_so wrote_it =
-    told call old new (ran with_record (input_of document script read)) wrote given (report_of with_record document script) status said_so
-    (by ∙ ap status_by ending) refl (ran_ends call with_record document script asked read passes built holds) wrote_it
+    (m : FieldModel) (begins : List ℕ) (cause : Option Cause) (given status : Status) (wrote : Result T WriteStop)
+    → deed_in call.words ≡ Some (runs one_document with_record) → IsRead one_document call.source_was call.source_now document
+    → Passes document script → call.machine_now ≡ m → HasRun document script m begins cause → given ≡ status_by cause
+    → status ≡ settled wrote given → WriteAll old new (ran_text with_record document script m.events) wrote → Meets call old new status
+ran_told {T} call old new with_record document script m begins cause given status wrote asked read passes now run by said_so wrote_it =
+    told call old new (ran with_record (input_of document script read)) wrote given (ran_text with_record document script m.events) status said_so
+    (by ∙ ap status_by run.ends) (ap (λ (n : FieldModel). ran_text with_record document script n.events) (sym now))
+    (ran_ends call with_record document script asked read passes (subst (HoldsRun document script) (sym now) run.holds)) wrote_it
 
 -- ---- no input
 

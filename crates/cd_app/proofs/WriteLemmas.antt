@@ -15,8 +15,8 @@ use Rattle.cd_reading.specs.Through.{cause_in}
 use Rattle.cd_report.specs.Texts.{accepted_line}
 use Rattle.cd_app.specs.declared.status.Status.{Status}
 use Rattle.cd_app.specs.Running.{check_text}
-use Rattle.cd_app.specs.Outcomes.{Outcome, no_command, made, not_read, refused, said, not_built, ran, status_by, status_of, text_of}
-use Rattle.cd_app.specs.Calls.{Call, Ends, Standing, by_text, by_line, standing, CutShort, Stands, Meets}
+use Rattle.cd_app.specs.Outcomes.{Outcome, no_command, made, not_read, refused, said, ran, status_by, status_of}
+use Rattle.cd_app.specs.Calls.{Call, text_in, Ends, Standing, by_text, by_line, standing, CutShort, Stands, Meets}
 use Rattle.cd_app.specs.Parts.{by_standing, behind_fault, settled}
 
 -- ---- one text behind the other
@@ -94,7 +94,6 @@ speaks (made text) = inl refl
 speaks not_read = inr refl
 speaks (refused document refusal) = inr refl
 speaks (said text) = inl refl
-speaks not_built = inr refl
 speaks (ran with_record input) = run_speaks (cause_in input.document.tree input.script)
 
 -- a call that meets one standing meets its status
@@ -102,14 +101,14 @@ at_standing : (call : Call) (old new : SinkModel) (status : Status) (one : Stand
     → Stands one call old new status → Meets call old new status
 at_standing call old new status one is stands = subst (λ (s : Standing). Stands s call old new status) (sym is) stands
 
-whole_text : (call : Call) (old new : SinkModel) (outcome : Outcome) → Ends call outcome → Grew old new (text_of outcome)
+whole_text : (call : Call) (old new : SinkModel) (outcome : Outcome) → Ends call outcome → Grew old new (text_in call outcome)
     → Speaks (status_of outcome) → Meets call old new (status_of outcome)
 whole_text call old new outcome ends grew (inl is) =
     at_standing call old new (status_of outcome) by_text is (outcome, ends, refl, grew)
 whole_text call old new outcome ends grew (inr is) =
     at_standing call old new (status_of outcome) by_line is (outcome, ends, refl, inl grew)
 
-cut_text : (call : Call) (old new : SinkModel) (outcome : Outcome) → Ends call outcome → CutShort old new (text_of outcome)
+cut_text : (call : Call) (old new : SinkModel) (outcome : Outcome) → Ends call outcome → CutShort old new (text_in call outcome)
     → Speaks (status_of outcome) → Meets call old new (behind_fault (status_of outcome))
 cut_text call old new outcome ends cut (inl is) =
     subst (λ (s : Standing). Meets call old new (by_standing s (status_of outcome))) (sym is) (outcome, ends, is, cut)
@@ -119,14 +118,14 @@ cut_text call old new outcome ends cut (inr is) =
 
 -- the text of an outcome was written, or as much of it as could be
 pub outcome_told : {T : Type 0} (call : Call) (old new : SinkModel) (outcome : Outcome) (wrote : Result T WriteStop)
-    → Ends call outcome → WriteAll old new (text_of outcome) wrote → Meets call old new (settled wrote (status_of outcome))
+    → Ends call outcome → WriteAll old new (text_in call outcome) wrote → Meets call old new (settled wrote (status_of outcome))
 outcome_told {T} call old new outcome (Ok _) ends wrote = whole_text call old new outcome ends wrote (speaks outcome)
 outcome_told {T} call old new outcome (Err write.Failed) ends wrote = cut_text call old new outcome ends wrote (speaks outcome)
 outcome_told {T} call old new outcome (Err write.NoMemory) ends wrote = inr (outcome, ends, wrote)
 
 -- the same, by equations for what the code has
 pub told : {T : Type 0} (call : Call) (old new : SinkModel) (outcome : Outcome) (wrote : Result T WriteStop) (given : Status)
-    (text : List ℕ) (status : Status) → status ≡ settled wrote given → given ≡ status_of outcome → text ≡ text_of outcome
+    (text : List ℕ) (status : Status) → status ≡ settled wrote given → given ≡ status_of outcome → text ≡ text_in call outcome
     → Ends call outcome → WriteAll old new text wrote → Meets call old new status
 told {T} call old new outcome wrote given text status is same spells ends written =
     let whole : Meets call old new (settled wrote (status_of outcome)) =

@@ -3,7 +3,7 @@ use Rattle.std.specs.Prelude.{◌≡◌, ◌⊎◌, ℕ, Bool, List, Option, Non
 use Rattle.cd_base.specs.Ends.{SourceModel, SinkModel, Rose, TookAtMost, Grew, GrewByFront}
 use Rattle.cd_field.specs.FieldModel.{FieldModel}
 use Rattle.cd_app.specs.declared.status.Status.{Status}
-use Rattle.cd_app.specs.declared.status.Status.TheVariants.{Done, Exhausted, Usage, Refused, ReadFault, WriteFault, NoMemory, NotBuilt}
+use Rattle.cd_app.specs.declared.status.Status.TheVariants.{Done, Exhausted, Usage, Refused, ReadFault, WriteFault, NoMemory}
 use Rattle.cd_app.specs.Running.{HoldsRun}
 use Rattle.cd_app.specs.Deeds.{Intake, Accepted, deed_in, intake_in}
 use Rattle.cd_app.specs.Outcomes.{Gave, Outcome, no_command, made, ran, ComesOf, status_of, text_of}
@@ -31,6 +31,10 @@ Leaves call (made text) = (call.source_now ≡ call.source_was) × (call.machine
 Leaves call (ran with_record input) = HoldsRun input.document input.script call.machine_now
 Leaves call _ = call.machine_now ≡ call.machine_was
 
+-- the text of an outcome of the call; that of a run is of the machine's events after the call
+abbrev pub text_in : Call → Outcome → List ℕ
+text_in call outcome = text_of call.machine_now.events outcome
+
 -- the call came to this
 abbrev pub Ends : Call → Outcome → Type 0
 Ends call outcome = Comes call outcome × Leaves call outcome
@@ -54,7 +58,6 @@ standing (Refused refusal) = by_line
 standing ReadFault = by_line
 standing WriteFault = by_fault
 standing NoMemory = by_memory
-standing NotBuilt = by_line
 
 -- a front of a text was written, and not all of it, since the sink failed
 abbrev pub CutShort : SinkModel → SinkModel → List ℕ → Type 0
@@ -81,14 +84,14 @@ RanOut call = TookWithin (intake_in call.words) call.source_was call.source_now 
 -- what a call wrote, and which outcome it came to, by the standing of its status
 abbrev pub Stands : Standing → Call → SinkModel → SinkModel → Status → Type 0
 Stands by_text call old new status =
-    (outcome : Outcome) × Ends call outcome × (status_of outcome ≡ status) × Grew old new (text_of outcome)
+    (outcome : Outcome) × Ends call outcome × (status_of outcome ≡ status) × Grew old new (text_in call outcome)
 Stands by_line call old new status =
     (outcome : Outcome) × Ends call outcome × (status_of outcome ≡ status)
-    × (Grew old new (text_of outcome) ⊎ CutShort old new (text_of outcome))
+    × (Grew old new (text_in call outcome) ⊎ CutShort old new (text_in call outcome))
 Stands by_fault call old new status =
-    (outcome : Outcome) × Ends call outcome × (standing (status_of outcome) ≡ by_text) × CutShort old new (text_of outcome)
+    (outcome : Outcome) × Ends call outcome × (standing (status_of outcome) ≡ by_text) × CutShort old new (text_in call outcome)
 Stands by_memory call old new status =
-    (RanOut call × (new ≡ old)) ⊎ ((outcome : Outcome) × Ends call outcome × GrewByFront old new (text_of outcome))
+    (RanOut call × (new ≡ old)) ⊎ ((outcome : Outcome) × Ends call outcome × GrewByFront old new (text_in call outcome))
 
 -- the whole of a call: what it came to, and what it wrote to the sink, by its status
 abbrev pub Meets : Call → SinkModel → SinkModel → Status → Type 0

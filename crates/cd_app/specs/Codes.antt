@@ -1,7 +1,7 @@
 -- The numbers by which the program ends.
 use Rattle.std.specs.Prelude.{ℕ}
 use Rattle.cd_app.specs.declared.status.Status.{Status}
-use Rattle.cd_app.specs.declared.status.Status.TheVariants.{Done, Exhausted, Usage, Refused, ReadFault, WriteFault, NoMemory, NotBuilt}
+use Rattle.cd_app.specs.declared.status.Status.TheVariants.{Done, Exhausted, Usage, Refused, ReadFault, WriteFault, NoMemory}
 
 abbrev pub code_of : Status → ℕ
 code_of Done = 0
@@ -11,4 +11,3 @@ code_of (Refused refusal) = 3
 code_of ReadFault = 4
 code_of WriteFault = 5
 code_of NoMemory = 6
-code_of NotBuilt = 9

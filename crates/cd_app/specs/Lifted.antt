@@ -8,7 +8,8 @@ use Rattle.cd_tree.specs.Meaning.{initial, node_meaning}
 use Rattle.cd_tree.specs.Record.{reading}
 use Rattle.cd_check.specs.Checking.{FirstRefusal, Passes}
 use Rattle.cd_print.specs.Canonical.{lifted}
-use Rattle.cd_app.specs.Running.{need_of, IsBuilt, report_of}
+use Rattle.cd_field.specs.FieldModel.{FieldModel}
+use Rattle.cd_app.specs.Running.{need_of, HoldsRun, ran_text}
 
 -- it has the same first refusal, or none
 abbrev pub LiftedIsRefusedAlike : Type 0
@@ -36,9 +37,9 @@ abbrev pub LiftedReadsTheSame : Type 0
 LiftedReadsTheSame =
     (document : Document) (script : List Fault) → reading (lifted document).tree script ≡ reading document.tree script
 
--- the engine can run it where it can run the document, and the report is the same
+-- a machine on which it has run is one on which the document has run, and the report of the same events is the same
 abbrev pub LiftedRunsAlike : Type 0
 LiftedRunsAlike =
-    (document : Document) (script : List Fault) (with_record : Bool)
-    → (IsBuilt (lifted document).tree ↔ IsBuilt document.tree)
-    × (report_of with_record (lifted document) script ≡ report_of with_record document script)
+    (document : Document) (script : List Fault) (m : FieldModel) (with_record : Bool)
+    → (HoldsRun (lifted document) script m ↔ HoldsRun document script m)
+    × (ran_text with_record (lifted document) script m.events ≡ ran_text with_record document script m.events)

@@ -4,14 +4,15 @@ use Rattle.cd_base.specs.Ends.{SourceModel, ReadAll}
 use Rattle.cd_base.specs.declared.transfer.ReadStop.TheVariants as stop
 use Rattle.cd_tree.specs.declared.document.Document.{Document}
 use Rattle.cd_tree.specs.declared.event.Cause.{Cause}
+use Rattle.cd_tree.specs.declared.event.Event.{Event}
 use Rattle.cd_tree.specs.declared.refusal.Refusal.{Refusal}
 use Rattle.cd_check.specs.Checking.{FirstRefusalOf, Passes}
 use Rattle.cd_parse.specs.Parsing.{parse}
 use Rattle.cd_reading.specs.Through.{cause_in}
-use Rattle.cd_report.specs.Texts.{refusal_line, usage_line, fault_line, not_built_line}
+use Rattle.cd_report.specs.Texts.{refusal_line, usage_line, fault_line}
 use Rattle.cd_app.specs.declared.status.Status.{Status}
-use Rattle.cd_app.specs.declared.status.Status.TheVariants.{Done, Exhausted, Usage, Refused, ReadFault, NotBuilt}
-use Rattle.cd_app.specs.Running.{IsBuilt, report_of}
+use Rattle.cd_app.specs.declared.status.Status.TheVariants.{Done, Exhausted, Usage, Refused, ReadFault}
+use Rattle.cd_app.specs.Running.{ran_text}
 use Rattle.cd_app.specs.Deeds.{Intake, Accepted, Deed, makes, says, runs}
 
 -- ---- inputs
@@ -49,42 +50,35 @@ pub record AcceptsBytes (intake : Intake) (input : Accepted) : Type 0 where
 -- ---- outcomes
 
 -- what a call comes to where memory suffices: the words give no command; a text that needs no input; the input was not
--- read; it is refused, and its document where it is one; something is said of it; the engine cannot run it as yet; it ran
+-- read; it is refused, and its document where it is one; something is said of it; it ran
 pub data Outcome : Type 0 where
   no_command : Outcome
   made : List ℕ → Outcome
   not_read : Outcome
   refused : Option Document → Refusal → Outcome
   said : List ℕ → Outcome
-  not_built : Outcome
   ran : Bool → Accepted → Outcome
 
--- what comes of a document that is to run
-abbrev pub Runs : Bool → Accepted → Outcome → Type 0
-Runs with_record input outcome =
-    (IsBuilt input.document.tree × (outcome ≡ ran with_record input))
-    ⊎ ((IsBuilt input.document.tree → ⊥) × (outcome ≡ not_built))
-
--- what comes of bytes that were all taken: they are refused, or they are accepted and `Next` says what comes
-abbrev pub Judged : Intake → List ℕ → (Accepted → Outcome → Type 0) → Outcome → Type 0
-Judged intake bytes Next outcome =
+-- what comes of bytes that were all taken: they are refused, or they are accepted and come to what `next` says
+abbrev pub Judged : Intake → List ℕ → (Accepted → Outcome) → Outcome → Type 0
+Judged intake bytes next outcome =
     ((document : Option Document) × (refusal : Refusal) × RefusesBytes intake bytes document refusal × (outcome ≡ refused document refusal))
-    ⊎ ((input : Accepted) × (input.bytes ≡ bytes) × AcceptsBytes intake input × Next input outcome)
+    ⊎ ((input : Accepted) × (input.bytes ≡ bytes) × AcceptsBytes intake input × (outcome ≡ next input))
 
 -- what comes of an input
-abbrev pub ComesOfInput : Intake → (Accepted → Outcome → Type 0) → Input → Outcome → Type 0
-ComesOfInput intake Next (whole bytes) outcome = Judged intake bytes Next outcome
-ComesOfInput intake Next too_much outcome = outcome ≡ refused None intake.beyond
-ComesOfInput intake Next unread outcome = outcome ≡ not_read
+abbrev pub ComesOfInput : Intake → (Accepted → Outcome) → Input → Outcome → Type 0
+ComesOfInput intake next (whole bytes) outcome = Judged intake bytes next outcome
+ComesOfInput intake next too_much outcome = outcome ≡ refused None intake.beyond
+ComesOfInput intake next unread outcome = outcome ≡ not_read
 
 -- what comes of what the words ask for
 abbrev pub ComesOf : (ℕ → Input → Type 0) → Option Deed → Outcome → Type 0
 ComesOf Gives None outcome = outcome ≡ no_command
 ComesOf Gives (Some (makes text)) outcome = outcome ≡ made text
 ComesOf Gives (Some (says intake text_of)) outcome =
-    (input : Input) × Gives intake.limit input × ComesOfInput intake (λ accepted end. end ≡ said (text_of accepted)) input outcome
+    (input : Input) × Gives intake.limit input × ComesOfInput intake (λ accepted. said (text_of accepted)) input outcome
 ComesOf Gives (Some (runs intake with_record)) outcome =
-    (input : Input) × Gives intake.limit input × ComesOfInput intake (Runs with_record) input outcome
+    (input : Input) × Gives intake.limit input × ComesOfInput intake (λ accepted. ran with_record accepted) input outcome
 
 -- ---- their statuses and texts
 
@@ -98,14 +92,13 @@ status_of (made text) = Done
 status_of not_read = ReadFault
 status_of (refused document refusal) = Refused refusal
 status_of (said text) = Done
-status_of not_built = NotBuilt
 status_of (ran with_record input) = status_by (cause_in input.document.tree input.script)
 
-abbrev pub text_of : Outcome → List ℕ
-text_of no_command = usage_line
-text_of (made text) = text
-text_of not_read = fault_line
-text_of (refused document refusal) = refusal_line document refusal
-text_of (said text) = text
-text_of not_built = not_built_line
-text_of (ran with_record input) = report_of with_record input.document input.script
+-- the text of an outcome; that of a run is written from the events that are on the machine's record
+abbrev pub text_of : List Event → Outcome → List ℕ
+text_of events no_command = usage_line
+text_of events (made text) = text
+text_of events not_read = fault_line
+text_of events (refused document refusal) = refusal_line document refusal
+text_of events (said text) = text
+text_of events (ran with_record input) = ran_text with_record input.document input.script events

@@ -1,18 +1,19 @@
 -- The texts of the actions, and what a run of a document leaves on a machine.
-use Rattle.std.specs.Prelude.{◌≡◌, ℕ, ◌++◌, Bool, List, length}
+use Rattle.std.specs.Prelude.{◌≡◌, ℕ, ◌^◌, ◌<◌, ◌++◌, Bool, List, Option, sum}
 use Rattle.cd_base.specs.Words.{Words}
 use Rattle.cd_tree.specs.declared.document.Document.{Document}
 use Rattle.cd_tree.specs.declared.document.Fault.{Fault}
+use Rattle.cd_tree.specs.declared.event.Cause.{Cause}
+use Rattle.cd_tree.specs.declared.event.Event.{Event}
 use Rattle.cd_tree.specs.Domains.{root_of}
-use Rattle.cd_tree.specs.Meaning.{initial, node_meaning, node_need}
+use Rattle.cd_tree.specs.Legal.{Legal}
+use Rattle.cd_tree.specs.Meaning.{initial, node_need}
 use Rattle.cd_tree.specs.TreeModel.{TreeModel}
-use Rattle.cd_tree.specs.Reading.{NodeEnd, Done as Completed, Escalated}
 use Rattle.cd_tree.specs.Record.{reading, record_of}
 use Rattle.cd_print.specs.Canonical.{canonical, lifted}
 use Rattle.cd_field.specs.FieldModel.{FieldModel, nowhere}
-use Rattle.cd_single.specs.Single.{OnlyCopies, NeverHalts}
 use Rattle.cd_reading.specs.Through.{begins_in, cause_in}
-use Rattle.cd_report.specs.Records.{run_text}
+use Rattle.cd_report.specs.Reports.{last_words, report_of}
 use Rattle.cd_report.specs.Texts.{reading_text, accepted_line}
 
 -- ---- the texts of the actions
@@ -35,28 +36,25 @@ lift_text document = canonical (lifted document)
 
 -- ---- runs
 
--- the words that the regions end with: the program's where nothing fails, or, where the root escalates, the initial ones
-abbrev pub words_at_end : Document → NodeEnd → Words
-words_at_end document (Completed leak) = node_meaning (root_of document.tree.domains) (initial document.regions)
-words_at_end document (Escalated cause over) = initial document.regions
+-- the words with which a document's regions end under a script: the fault-free program's or, where the script exhausts the root, the
+-- initial ones
+abbrev pub words_at_end : Document → List Fault → Words
+words_at_end document script = last_words document (reading document.tree script).answer
 
-abbrev pub last_words : Document → List Fault → Words
-last_words document script = words_at_end document (reading document.tree script).answer
+-- the text of `run` with its record or without, from a machine's own events
+abbrev pub ran_text : Bool → Document → List Fault → List Event → List ℕ
+ran_text with_record document script events = report_of with_record document (reading document.tree script) events
 
--- the report of a document's run
-unfoldable pub report_of : Bool → Document → List Fault → List ℕ
-report_of with_record document script =
-    run_text with_record document.tree document.regions (last_words document script) (record_of document.tree script)
-    (begins_in document.tree script) (cause_in document.tree script)
-
--- a machine on which a document has run: the record is the reading's, the regions have their last words, nothing is lost
+-- a machine on which a document has run: its record is legal for the reading's, with the regions' initial words as those that
+-- were loaded; the regions have their last words; nothing is lost
 pub record HoldsRun (document : Document) (script : List Fault) (m : FieldModel) : Type 0 where
-  pub record_is : m.events ≡ record_of document.tree script
-  pub words : m.words ≡ last_words document script
+  pub legal : Legal document.tree (initial document.regions) m.events (record_of document.tree script)
+  pub words : m.words ≡ words_at_end document script
   pub present : m.lost ≡ nowhere
 
--- what the engine can run as yet: one domain, whose entries are copies, and no kind that halts
-pub record IsBuilt (tree : TreeModel) : Type 0 where
-  pub one : length tree.domains ≡ 1
-  pub copies : OnlyCopies tree
-  pub quiet : NeverHalts tree
+-- the same with what the run told of itself: how often each domain began, and why the root escalated, where it did
+pub record HasRun (document : Document) (script : List Fault) (m : FieldModel) (begins : List ℕ) (cause : Option Cause) : Type 0 where
+  pub holds : HoldsRun document script m
+  pub counts : begins ≡ begins_in document.tree script
+  pub total : sum begins < 2 ^ 64
+  pub ends : cause ≡ cause_in document.tree script

@@ -11,18 +11,18 @@ ghost use Rattle.cd_app.specs.Calls.{Meets, call_of};
 ghost use Rattle.cd_app.specs.Parts.{IsSound, deed_for, text_for};
 
 use crate::Status;
+use crate::need::whole_need;
 use crate::receive::receive;
 use crate::status::settled;
 use crate::tell::{tell, tell_of};
 use cd_base::{NoMemory, Sink, Source, WriteStop};
 use cd_check::check;
-use cd_cover::Plan;
 use cd_foot::Footprints;
 use cd_parse::laws::a_document_is_well_read;
 use cd_print::{lifted, print_document};
 use cd_reading::read_through;
 use cd_report::{write_accepted, write_reading};
-use cd_tree::{Document, NodeId, Refuse, Script};
+use cd_tree::{Document, Refuse, Script};
 use std::alloc::Global;
 
 // What is said of a document that the checks pass.
@@ -66,14 +66,6 @@ fn passes(alloc: Global, document: &Document) -> Result<(u32, Script), Refuse>
         },
         Err(NoMemory) => Err(Refuse::NoMemory),
     }
-}
-
-// The blocks that a run of the whole program needs.
-fn whole_need(plan: &Plan) -> u32
-    ensures { result ≡ need_of plan.now.tree }
-{
-    prove!(0 < plan.tree().count());
-    plan.need(NodeId(0))
 }
 
 // Writes the text of an action. The document is taken apart for `lift`, so nothing may stand on it.

@@ -8,7 +8,7 @@ ghost use Rattle.cd_app.specs.Calls.{Meets, call_of};
 
 use crate::Status;
 use crate::actions::{Action, act};
-use crate::run::run_source;
+use crate::run::{AskedRun, run_source};
 use crate::status::settled;
 use cd_base::{NoMemory, Sink, Source};
 use cd_command::{Command, Words, command_of};
@@ -16,17 +16,15 @@ use cd_field::Field;
 use cd_make::write_make;
 use cd_report::write_usage;
 use std::alloc::Global;
-
-/// A run that words ask for: by how many workers, and whether its record is written.
-#[derive(Clone, Copy, Drop)]
-pub struct AskedRun {
-    pub workers: u32,
-    pub with_record: bool,
-}
+use std::sync::Wait;
+use std::thread::Threads;
 
 /// Does what the words say. All but `make` read a document from the source; `run` runs it on the machine, and no other
-/// command touches that; each writes its text to the sink. The number of workers has no effect as yet.
-pub fn run_cd<S: Source, K: Sink, F: Field>(
+/// command touches that; each writes its text to the sink. A run may wait; nothing else does. Where its clause says that a
+/// document has run, the machine holds that run, whatever the number of workers and however their steps fell; after want of
+/// memory in a run nothing is said of the machine.
+pub fn run_cd<R: Threads + Wait + Sync, S: Source, K: Sink, F: Field>(
+    rt: &R,
     alloc: Global,
     words: &Words,
     source: &mut S,
@@ -37,7 +35,7 @@ pub fn run_cd<S: Source, K: Sink, F: Field>(
 {
     match plain_cd(alloc, words, source, sink) {
         Ok(status) => status,
-        Err(asked) => run_source(alloc, asked.with_record, source, sink, machine),
+        Err(asked) => run_source(rt, alloc, asked, source, sink, machine),
     }
 }
 

@@ -1,6 +1,7 @@
 //! The laws of a whole call, each the contract of a function that does nothing: to call it is to have the law.
 
-ghost use Rattle.cd_app.specs.Due.{OutcomeIsThere, OutcomeIsOne, OutcomeIsGiven, CountsDoNotFall};
+ghost use Rattle.cd_app.specs.Due.{OutcomeIsThere, OutcomeIsOne, OutcomeIsGiven, OwnTextIsOne, CountsDoNotFall};
+ghost use Rattle.cd_app.specs.Headline.{RunsAreTold};
 ghost use Rattle.cd_app.specs.Lifted.{LiftedIsRefusedAlike, LiftedPassesAlike, LiftedMeansTheSame, LiftedNeedsTheSame, LiftedReadsTheSame, LiftedRunsAlike};
 
 use cd_check::laws;
@@ -24,9 +25,19 @@ pub fn one_outcome_is_due()
 }
 
 /// Where neither the source nor the sink fails and there is memory, a call gives what is due by its words and by the bytes
-/// that the source has: that status, and its text whole. Words that ask for no input ask nothing of the source.
+/// that the source has: that status, and its text whole. Words that ask for no input ask nothing of the source. The text is
+/// known by the outcome, but for the record of a run, which is the machine's own.
 pub fn the_due_outcome_is_given()
-    ensures { OutcomeIsGiven }
+    ensures given { OutcomeIsGiven }
+    ensures text { OwnTextIsOne }
+{}
+
+/// A run that came to its end, whatever the number of workers and the order of their steps: the machine's record is legal for
+/// the one-thread reading of the document that the source gave, its regions are the fault-free program's or, where the script
+/// exhausts the root, the initial ones with the path and the kinds of the cause in the status, and nothing is lost. The text is
+/// the report of the machine's own events, whole but for a fault of the sink.
+pub fn a_run_leaves_what_the_reading_gives()
+    ensures { RunsAreTold }
 {}
 
 /// No call lets the count of faults of its source or of its sink fall.

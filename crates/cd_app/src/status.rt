@@ -25,8 +25,6 @@ pub enum Status {
     WriteFault,
     /// There was not enough memory.
     NoMemory,
-    /// The document is accepted, and the engine cannot run it as yet.
-    NotBuilt,
 }
 
 impl Status {
@@ -42,7 +40,6 @@ impl Status {
             Status::ReadFault => 4,
             Status::WriteFault => 5,
             Status::NoMemory => 6,
-            Status::NotBuilt => 9,
         }
     }
 
@@ -57,7 +54,6 @@ impl Status {
             Status::Refused(refusal) => Status::Refused(refusal),
             Status::ReadFault => Status::ReadFault,
             Status::NoMemory => Status::NoMemory,
-            Status::NotBuilt => Status::NotBuilt,
         }
     }
 }

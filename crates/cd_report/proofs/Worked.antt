@@ -1,20 +1,25 @@
 -- Worked cases on which the definitions compute: each is proved by computing both sides.
-use Rattle.std.proofs.Common.{◌≡◌, ℕ, ◌-◌, ◌^◌, false, List, [], ◌∷◌, Option, None, Some, refl, codes}
+use Rattle.std.proofs.Common.{◌≡◌, ℕ, ◌-◌, ◌^◌, true, false, List, [], ◌∷◌, Option, None, Some, refl, codes}
 use Rattle.std.specs.Fmt.{digits}
 use Rattle.cd_base.specs.declared.pattern.Pattern.TheVariants.{Const}
+use Rattle.cd_base.specs.declared.place.Range.{Range}
 use Rattle.cd_base.specs.Words.{Words}
 use Rattle.cd_tree.specs.declared.domain.NodeId.{NodeId}
 use Rattle.cd_tree.specs.declared.domain.Domain.{Domain}
+use Rattle.cd_tree.specs.declared.domain.Item.TheVariants.{Run}
+use Rattle.cd_tree.specs.declared.operation.Op.TheVariants.{Fill}
 use Rattle.cd_tree.specs.declared.document.Region.{Region}
 use Rattle.cd_tree.specs.declared.document.Document.{Document}
 use Rattle.cd_tree.specs.declared.kinds.KindName.{KindName}
 use Rattle.cd_tree.specs.declared.refusal.Refusal.TheVariants.{Overlap, Uncovered, NoTarget, Stale}
 use Rattle.cd_tree.specs.TreeModel.{TreeModel}
+use Rattle.cd_tree.specs.Reading.{Told, NodeEnd, Done, Escalated, told, silence, blame}
 use Rattle.cd_tree.specs.declared.event.Kept.TheVariants.{Regen}
 use Rattle.cd_tree.specs.declared.event.Event.TheVariants.{Begin, Saved, Fell, Lapsed, Refilled, Reached, Halted, Found, Complete, Escalate}
 use Rattle.cd_tokens.specs.Written.{kinds_token}
 use Rattle.cd_report.specs.Texts.{report_text, region_line, refusal_line}
 use Rattle.cd_report.specs.Records.{record_text}
+use Rattle.cd_report.specs.Reports.{report_of}
 
 abbrev id : ℕ → NodeId
 id n = record { 0 = n }
@@ -114,3 +119,32 @@ each_event : record_text kinds (region (codes "y") 4 ∷ [])
     ≡ codes "record\nbegin 0 1\nsaved 0 3 regen\nfell 1 2 y[3] wanted 7 found 8\nlapsed 1 0 seen 12 found 13\nrefilled 2 5\nreached 2 4\nhalted 3 node\nfound 0 none\ncomplete 10\nescalate 0\n"
 unfolding digits
 each_event = refl
+
+-- ---- reports of documents
+
+abbrev y : Range
+y = record { region = 0; low = 0; high = 4 }
+
+-- one domain, which fills its region
+abbrev filling : Document
+filling =
+    record {
+      version = 1; regions = region (codes "y") 4 ∷ []; faults = [];
+      tree = record single { domains = record (domain (codes "root") None) { items = Run (Fill y 7) ∷ [] } ∷ [] };
+    }
+
+-- a reading in which each domain begins twice
+abbrev twice : NodeEnd → Told NodeEnd
+twice end = told silence (λ n. 2) end
+
+-- where the reading is done the words are the program's, and the record is the machine's own, with what fell back
+done_report : report_of true filling (twice (Done 0)) (Fell (id 0) 0 (record { region = 0; index = 1 }) 8 0 ∷ Complete (id 0) ∷ [])
+    ≡ codes "committed\nregion y 7 7 7 7\nbegins root 2\ntotal 2\nrecord\nfell 0 0 y[1] wanted 8 found 0\ncomplete 0\n"
+unfolding digits report_of
+done_report = refl
+
+-- where it escalates the root they are the initial ones
+exhausted_report : report_of false filling (twice (Escalated (blame (id 0) 1) 0)) (Escalate (id 0) ∷ [])
+    ≡ codes "exhausted root flip\nregion y 0 0 0 0\nbegins root 2\ntotal 2\n"
+unfolding digits report_of
+exhausted_report = refl

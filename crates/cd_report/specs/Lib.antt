@@ -1,3 +1,4 @@
 -- The texts that the program writes.
 pub mod Texts
 pub mod Records
+pub mod Reports

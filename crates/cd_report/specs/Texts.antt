@@ -174,7 +174,3 @@ usage_line = line (codes "usage: cd check|read|run|make|lift [--workers N] [--re
 -- the line where the source could not be read
 abbrev pub fault_line : List ℕ
 fault_line = line (codes "read fault")
-
--- the line where what is asked for is not there yet
-abbrev pub not_built_line : List ℕ
-not_built_line = line (codes "not built yet")

@@ -23,6 +23,6 @@ mod run;
 mod tests;
 
 pub use accepted::write_accepted;
-pub use lines::{write_not_built, write_read_fault, write_usage};
+pub use lines::{write_read_fault, write_usage};
 pub use refusal::write_refusal;
 pub use run::{write_reading, write_run};

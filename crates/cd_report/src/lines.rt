@@ -1,14 +1,12 @@
 // Lines of their own.
 ghost use Rattle.cd_base.specs.Ends.{WriteAll};
-ghost use Rattle.cd_report.specs.Texts.{usage_line, fault_line, not_built_line};
+ghost use Rattle.cd_report.specs.Texts.{usage_line, fault_line};
 
 use cd_base::{Sink, WriteStop, write_all};
 
 const USAGE: &str = "usage: cd check|read|run|make|lift [--workers N] [--record] [--size N]\n";
 
 const READ_FAULT: &str = "read fault\n";
-
-const NOT_BUILT: &str = "not built yet\n";
 
 /// Writes how the program is called. It takes no memory of its own.
 pub fn write_usage<K: Sink>(sink: &mut K) -> Result<(), WriteStop>
@@ -22,11 +20,4 @@ pub fn write_read_fault<K: Sink>(sink: &mut K) -> Result<(), WriteStop>
     ensures { WriteAll (K.model sink.old) (K.model sink.new) fault_line result }
 {
     write_all(sink, READ_FAULT.as_bytes())
-}
-
-/// Writes that what is asked for is not there yet. It takes no memory of its own.
-pub fn write_not_built<K: Sink>(sink: &mut K) -> Result<(), WriteStop>
-    ensures { WriteAll (K.model sink.old) (K.model sink.new) not_built_line result }
-{
-    write_all(sink, NOT_BUILT.as_bytes())
 }

@@ -2,9 +2,7 @@
 ghost use Rattle.std.specs.Prelude.{◌<◌, ◌^◌, length, IsTrue};
 
 use crate::events::event_line;
-use crate::{
-    write_not_built, write_read_fault, write_reading, write_refusal, write_run, write_usage,
-};
+use crate::{write_read_fault, write_reading, write_refusal, write_run, write_usage};
 use cd_base::{Items, MemorySink, Pattern, Place, Text, WriteStop};
 use cd_field::{Field, ScriptField};
 use cd_tree::{
@@ -166,10 +164,9 @@ fn lines_of_their_own(rt: HostRuntime) -> Result<(), Fail> {
     let mut sink = MemorySink::new(rt.alloc(), 100, Vec::new(rt.alloc()));
     write_usage(&mut sink)?;
     write_read_fault(&mut sink)?;
-    write_not_built(&mut sink)?;
     is_text(
         sink.bytes(),
-        "usage: cd check|read|run|make|lift [--workers N] [--record] [--size N]\nread fault\nnot built yet\n",
+        "usage: cd check|read|run|make|lift [--workers N] [--record] [--size N]\nread fault\n",
     )
 }
 

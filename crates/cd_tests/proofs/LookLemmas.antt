@@ -1,5 +1,5 @@
 -- A run that came to its end left the words of the text's first region.
-use Rattle.std.proofs.Common.{◌≡◌, ℕ, Bool, true, false, List, [], ◌∷◌, ◌++◌, Option, Some, None, Result, Ok, slice_get, codes, refl, sym, ap, subst, ◌∙◌, inl, inr, append-nil}
+use Rattle.std.proofs.Common.{◌≡◌, ℕ, Bool, true, false, List, [], ◌∷◌, ◌++◌, Option, Some, None, Result, slice_get, codes, refl, sym, ap, subst, ◌∙◌, append-nil}
 use Rattle.std.specs.Io.KnownBytes.{Consumes, IsAtEnd}
 use Rattle.cd_base.specs.Ends.{SinkModel}
 use Rattle.cd_tree.specs.declared.document.Region.{Region}
@@ -17,69 +17,10 @@ use Rattle.cd_tokens.specs.Names.{name, path}
 use Rattle.cd_tokens.specs.Kinds.{kind, kind_set, pattern}
 use Rattle.cd_field.specs.FieldModel.{FieldModel}
 use Rattle.cd_app.specs.declared.status.Status.{Status}
-use Rattle.cd_app.specs.declared.status.Status.TheVariants.{Done, Exhausted, Usage, Refused, ReadFault, WriteFault, NoMemory, NotBuilt}
-use Rattle.cd_app.specs.Running.{HoldsRun}
-use Rattle.cd_app.specs.Deeds.{one_document, Accepted, Deed, runs, deed_in}
-use Rattle.cd_app.specs.Outcomes.{Input, whole, too_much, unread, Gave, AcceptsBytes, Outcome, refused, not_read, not_built, Runs, Judged, ComesOfInput, ComesOf, status_of}
-use Rattle.cd_app.specs.Calls.{Call, Leaves, Ends, by_text, by_line, standing, Meets}
+use Rattle.cd_app.specs.Calls.{Call, Meets}
+use Rattle.cd_app.specs.Headline.{comes_of_a_run, RunIsTold, RunsAreTold}
 use Rattle.cd_app.proofs.RunLemmas.{regions_present}
-use Rattle.cd_tests.specs.Look.{regions_in, four_words, HasFourWords, HasFourWordsLeft, FourArePresent, IsRun, comes_behind_a_run}
-
--- what a call that came behind a run tells of it
-record HasRun (call : Call) : Type 0 where
-  input : Accepted
-  gave : Gave call.source_was call.source_now one_document.limit (whole input.bytes)
-  read : parse input.bytes ≡ Ok input.document
-  holds : HoldsRun input.document input.script call.machine_now
-
--- an outcome that only a line tells of is not told by a text
-not_by_line : (outcome other : Outcome) → outcome ≡ other → standing (status_of other) ≡ by_line → standing (status_of outcome) ≡ by_text → ⊥
-not_by_line outcome other same line text =
-    let wrong : by_line ≡ by_text = sym line ∙ sym (ap (λ (o : Outcome). standing (status_of o)) same) ∙ text in cc
-
--- what comes of an accepted input, and is told by a text, has run
-accepted_ran : (call : Call) (with_record : Bool) (input : Accepted) (outcome : Outcome)
-    → Gave call.source_was call.source_now one_document.limit (whole input.bytes) → AcceptsBytes one_document input → Runs with_record input outcome
-    → Leaves call outcome → standing (status_of outcome) ≡ by_text → HasRun call
-accepted_ran call with_record input outcome gave accepts (inl (built, is)) leaves text =
-    record { input = input; gave = gave; read = accepts.read; holds = subst (λ (o : Outcome). Leaves call o) is leaves }
-accepted_ran call with_record input outcome gave accepts (inr (unbuilt, is)) leaves text =
-    absurd (not_by_line outcome not_built is refl text)
-
-whole_ran : (call : Call) (with_record : Bool) (bytes : List ℕ) (outcome : Outcome)
-    → Gave call.source_was call.source_now one_document.limit (whole bytes) → Judged one_document bytes (Runs with_record) outcome
-    → Leaves call outcome → standing (status_of outcome) ≡ by_text → HasRun call
-whole_ran call with_record bytes outcome gave (inl (document, refusal, refuses, is)) leaves text =
-    absurd (not_by_line outcome (refused document refusal) is refl text)
-whole_ran call with_record bytes outcome gave (inr (input, same, accepts, runs_on)) leaves text =
-    accepted_ran call with_record input outcome
-    (subst (λ (l : List ℕ). Gave call.source_was call.source_now one_document.limit (whole l)) (sym same) gave) accepts runs_on leaves text
-
-input_ran : (call : Call) (with_record : Bool) (input : Input) (outcome : Outcome) → Gave call.source_was call.source_now one_document.limit input
-    → ComesOfInput one_document (Runs with_record) input outcome → Leaves call outcome → standing (status_of outcome) ≡ by_text
-    → HasRun call
-input_ran call with_record (whole bytes) outcome gave comes leaves text = whole_ran call with_record bytes outcome gave comes leaves text
-input_ran call with_record too_much outcome gave comes leaves text =
-    absurd (not_by_line outcome (refused None one_document.beyond) comes refl text)
-input_ran call with_record unread outcome gave comes leaves text = absurd (not_by_line outcome not_read comes refl text)
-
-ran_by_text : (call : Call) (with_record : Bool) (outcome : Outcome) → IsRun call.words with_record → Ends call outcome
-    → standing (status_of outcome) ≡ by_text → HasRun call
-ran_by_text call with_record outcome run ends text =
-    let comes : ComesOf (Gave call.source_was call.source_now) (Some (runs one_document with_record)) outcome =
-    subst (λ (d : Option Deed). ComesOf (Gave call.source_was call.source_now) d outcome) run ends.0 in
-    input_ran call with_record comes.0 outcome comes.1 comes.2 ends.1 text
-
-has_run : (call : Call) (old new : SinkModel) (with_record : Bool) (status : Status) → IsRun call.words with_record
-    → comes_behind_a_run status ≡ true → Meets call old new status → HasRun call
-has_run call old new with_record Done run e meets = ran_by_text call with_record meets.0 run meets.1 (ap standing meets.2)
-has_run call old new with_record (Exhausted cause) run e meets = ran_by_text call with_record meets.0 run meets.1 (ap standing meets.2)
-has_run call old new with_record WriteFault run e meets = ran_by_text call with_record meets.0 run meets.1 meets.2
-has_run call old new with_record Usage run e meets = absurd cc
-has_run call old new with_record (Refused refusal) run e meets = absurd cc
-has_run call old new with_record ReadFault run e meets = absurd cc
-has_run call old new with_record NoMemory run e meets = absurd cc
-has_run call old new with_record NotBuilt run e meets = absurd cc
+use Rattle.cd_tests.specs.Look.{regions_in, four_words, HasFourWords, HasFourWordsLeft, FourArePresent, IsRun}
 
 all_taken : (text bytes : List ℕ) (left : Option (List ℕ)) → Consumes (Some text) left bytes → IsAtEnd left → text ≡ bytes
 all_taken text bytes None c e = elim c [ ]
@@ -89,14 +30,15 @@ regions_left : (had left : Option (List ℕ)) (bytes : List ℕ) → Consumes ha
 regions_left None left bytes c e four = elim four [ ]
 regions_left (Some text) left bytes c e four = subst HasFourWords (all_taken text bytes left c e) four
 
-pub four_present : (law : WordsStay) (call : Call) (old new : SinkModel) (with_record : Bool) (status : Status) → IsRun call.words with_record
-    → comes_behind_a_run status ≡ true → Meets call old new status → HasFourWordsLeft call.source_was.left → FourArePresent call.machine_now
-four_present law call old new with_record status run e meets four =
-    let has : HasRun call = has_run call old new with_record status run e meets in
+pub four_present : (law : WordsStay) (told : RunsAreTold) (call : Call) (old new : SinkModel) (with_record : Bool) (status : Status)
+    → IsRun call.words with_record → comes_of_a_run status ≡ true → Meets call old new status → HasFourWordsLeft call.source_was.left
+    → FourArePresent call.machine_now
+four_present law told call old new with_record status run e meets four =
+    let has : RunIsTold call old new status with_record = told call old new status with_record run e meets in
     let here : HasFourWords has.input.bytes =
     regions_left call.source_was.left call.source_now.left has.input.bytes has.gave.0.0 has.gave.1 four in
     let found : slice_get has.input.document.regions 0 ≡ Some four_words =
-    ap (λ (p : Result Document Refusal). slice_get (regions_in p) 0) (sym has.read) ∙ here in
+    ap (λ (p : Result Document Refusal). slice_get (regions_in p) 0) (sym has.accepted.read) ∙ here in
     record { each = λ i short. regions_present law has.input.document has.input.script call.machine_now has.holds 0 i four_words found short }
 
 -- the word `run` alone gives a run without its record

@@ -1,5 +1,5 @@
 -- When a machine can be looked at: a text's first region has four words, and a run of it came to its end.
-use Rattle.std.specs.Prelude.{◌≡◌, ℕ, ◌<◌, Bool, true, false, List, [], Option, None, Some, Result, Ok, Err, slice_get, codes}
+use Rattle.std.specs.Prelude.{◌≡◌, ℕ, ◌<◌, Bool, List, [], Option, None, Some, Result, Ok, Err, slice_get, codes}
 use Rattle.cd_base.specs.declared.pattern.Pattern.TheVariants.{Const}
 use Rattle.cd_tree.specs.declared.document.Region.{Region}
 use Rattle.cd_tree.specs.declared.document.Document.{Document}
@@ -7,8 +7,6 @@ use Rattle.cd_tree.specs.declared.refusal.Refusal.{Refusal}
 use Rattle.cd_parse.specs.Parsing.{parse}
 use Rattle.cd_field.specs.FieldModel.{FieldModel, IsPresent}
 use Rattle.cd_app.specs.Deeds.{one_document, runs, deed_in}
-use Rattle.cd_app.specs.declared.status.Status.{Status}
-use Rattle.cd_app.specs.declared.status.Status.TheVariants.{Done, Exhausted, WriteFault}
 
 -- the regions of a text that is read
 abbrev pub regions_in : Result Document Refusal → List Region
@@ -35,10 +33,3 @@ pub record FourArePresent (m : FieldModel) : Type 0 where
 -- the words ask for a run, with its record or without
 abbrev pub IsRun : List (List ℕ) → Bool → Type 0
 IsRun words with_record = deed_in words ≡ Some (runs one_document with_record)
-
--- these statuses come behind a run, where the words are a run's
-abbrev pub comes_behind_a_run : Status → Bool
-comes_behind_a_run Done = true
-comes_behind_a_run (Exhausted cause) = true
-comes_behind_a_run WriteFault = true
-comes_behind_a_run _ = false

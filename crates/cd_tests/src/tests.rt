@@ -25,4 +25,5 @@ mod largest;
 mod machines;
 mod refusals;
 mod reports;
+mod runs;
 mod texts;

@@ -9,7 +9,9 @@ use super::texts::{
 };
 use cd_field::MapField;
 use std::alloc::Global;
+use std::sync::Wait;
 use std::test::Fail;
+use std::thread::Threads;
 
 /// Documents in two parts, and what is read of them.
 static READINGS: [Case; 16] = cases! {
@@ -33,7 +35,7 @@ static READINGS: [Case; 16] = cases! {
 
 #[test]
 fn documents_are_read_through(rt: HostRuntime) -> Result<(), Fail> {
-    all_tell(rt.alloc(), &["read"], &READINGS)
+    all_tell(&rt, rt.alloc(), &["read"], &READINGS)
 }
 
 /// What `check` and `lift` write, for a document in two parts.
@@ -85,8 +87,8 @@ static TEXTS: [(&str, &str, &str, &str); 7] = [
 #[test]
 fn texts_are_written_and_stay_when_read_again(rt: HostRuntime) -> Result<(), Fail> {
     for (word, front, back, written) in &TEXTS {
-        tells(rt.alloc(), &[*word], &(*front, *back, 0, *written))?;
-        tells(rt.alloc(), &[*word], &(*written, "", 0, *written))?;
+        tells(&rt, rt.alloc(), &[*word], &(*front, *back, 0, *written))?;
+        tells(&rt, rt.alloc(), &[*word], &(*written, "", 0, *written))?;
     }
     Ok(())
 }
@@ -101,7 +103,7 @@ static FIRST_LINES: [Case; 4] = cases! {
 
 #[test]
 fn accepted_documents_are_counted(rt: HostRuntime) -> Result<(), Fail> {
-    all_begin(rt.alloc(), &["check"], &FIRST_LINES)
+    all_begin(&rt, rt.alloc(), &["check"], &FIRST_LINES)
 }
 
 /// Sizes of generated documents, with their first line of `check`, and the end of what is read of them.
@@ -124,11 +126,17 @@ static SIZES: [(&str, &str, &str); 3] = [
 ];
 
 /// The document that is made at a size is accepted with this first line, and what is read of it has this end.
-fn is_made(alloc: Global, size: &str, line: &str, end: &str) -> Result<(), Fail> {
+fn is_made<R: Threads + Wait + Sync>(
+    rt: &R,
+    alloc: Global,
+    size: &str,
+    line: &str,
+    end: &str,
+) -> Result<(), Fail> {
     let mut machine = MapField::empty(alloc);
-    let made = call(alloc, &["make", "--size", size], b"", &mut machine)?;
-    let checked = call(alloc, &["check"], made.written.as_slice(), &mut machine)?;
-    let read = call(alloc, &["read"], made.written.as_slice(), &mut machine)?;
+    let made = call(rt, alloc, &["make", "--size", size], b"", &mut machine)?;
+    let checked = call(rt, alloc, &["check"], made.written.as_slice(), &mut machine)?;
+    let read = call(rt, alloc, &["read"], made.written.as_slice(), &mut machine)?;
     if (made.status, checked.status, read.status) == (0, 0, 0)
         && checked.written.as_slice().starts_with(line.as_bytes())
         && read.written.as_slice().ends_with(end.as_bytes())
@@ -141,7 +149,7 @@ fn is_made(alloc: Global, size: &str, line: &str, end: &str) -> Result<(), Fail>
 #[test]
 fn made_documents_are_accepted_and_read(rt: HostRuntime) -> Result<(), Fail> {
     for (size, line, end) in &SIZES {
-        is_made(rt.alloc(), size, line, end)?;
+        is_made(&rt, rt.alloc(), size, line, end)?;
     }
     Ok(())
 }

@@ -5,7 +5,9 @@ use cd_base::{MemorySink, MemorySource, Text};
 use cd_command::Words;
 use cd_field::{Field, MapField};
 use std::alloc::Global;
+use std::sync::Wait;
 use std::test::Fail;
+use std::thread::Threads;
 
 /// A document whose root fills its one region.
 pub(crate) const FILL: &str =
@@ -49,7 +51,8 @@ pub(crate) fn words_of(alloc: Global, texts: &[&str]) -> Result<Words, Fail> {
 }
 
 /// A call with these words on a text, where nothing fails.
-pub(crate) fn call(
+pub(crate) fn call<R: Threads + Wait + Sync>(
+    rt: &R,
     alloc: Global,
     words: &[&str],
     text: &[u8],
@@ -59,13 +62,14 @@ pub(crate) fn call(
     let text = Vec::from_slice(alloc, text)?;
     let mut source = MemorySource::new(text, 4096, Vec::new(alloc));
     let mut sink = MemorySink::new(alloc, 65536, Vec::new(alloc));
-    let status = run_cd(alloc, &words, &mut source, &mut sink, machine);
+    let status = run_cd(rt, alloc, &words, &mut source, &mut sink, machine);
     answered(alloc, &status, &sink, machine)
 }
 
 /// A call with these words on a text, whose source gives and whose sink takes one byte a call. They fail at the calls with
 /// these numbers, where 0 is no call.
-pub(crate) fn call_failing(
+pub(crate) fn call_failing<R: Threads + Wait + Sync>(
+    rt: &R,
     alloc: Global,
     words: &[&str],
     text: &str,
@@ -76,7 +80,7 @@ pub(crate) fn call_failing(
     let text = Vec::from_slice(alloc, text.as_bytes())?;
     let mut source = MemorySource::new(text, 1, Vec::from_slice(alloc, &[failing_read])?);
     let mut sink = MemorySink::new(alloc, 1, Vec::from_slice(alloc, &[failing_write])?);
-    let status = run_cd(alloc, &words, &mut source, &mut sink, machine);
+    let status = run_cd(rt, alloc, &words, &mut source, &mut sink, machine);
     answered(alloc, &status, &sink, machine)
 }
 
@@ -94,7 +98,8 @@ fn answered(
 }
 
 /// A call with these words on two texts, one after the other, where nothing fails.
-pub(crate) fn call_joined(
+pub(crate) fn call_joined<R: Threads + Wait + Sync>(
+    rt: &R,
     alloc: Global,
     words: &[&str],
     front: &str,
@@ -103,7 +108,7 @@ pub(crate) fn call_joined(
 ) -> Result<Answer, Fail> {
     let mut text = String::from_str(alloc, front)?;
     text.push_str(back)?;
-    call(alloc, words, text.as_bytes(), machine)
+    call(rt, alloc, words, text.as_bytes(), machine)
 }
 
 /// A document in two parts, and the status and the text that a call on it is to answer.
@@ -117,14 +122,15 @@ fn failed(words: &[&str], why: &str, case: &Case) -> Fail {
 }
 
 /// Whether the machine's record has an event after a call, which fails the test unless it answers as the case says.
-fn answers(
+fn answers<R: Threads + Wait + Sync>(
+    rt: &R,
     alloc: Global,
     words: &[&str],
     case: &Case,
     machine: &mut MapField,
 ) -> Result<bool, Fail> {
     let (front, back, status, written) = case;
-    let answer = call_joined(alloc, words, front, back, machine)?;
+    let answer = call_joined(rt, alloc, words, front, back, machine)?;
     if answer.status != *status {
         return Err(failed(words, "gives another status", case));
     }
@@ -135,26 +141,31 @@ fn answers(
 }
 
 /// A call that runs a document: it answers as the case says, and the record begins exactly where the status is of a run.
-fn runs(alloc: Global, words: &[&str], case: &Case) -> Result<(), Fail> {
+fn runs<R: Threads + Wait + Sync>(
+    rt: &R,
+    alloc: Global, words: &[&str], case: &Case) -> Result<(), Fail> {
     let mut machine = MapField::empty(alloc);
     let (_, _, status, _) = case;
-    if answers(alloc, words, case, &mut machine)? == (*status < 2) {
+    if answers(rt, alloc, words, case, &mut machine)? == (*status < 2) {
         return Ok(());
     }
     Err(failed(words, "leaves another record", case))
 }
 
 /// A call that runs nothing: it answers as the case says, and there is no record.
-pub(crate) fn tells(alloc: Global, words: &[&str], case: &Case) -> Result<(), Fail> {
+pub(crate) fn tells<R: Threads + Wait + Sync>(
+    rt: &R,
+    alloc: Global, words: &[&str], case: &Case) -> Result<(), Fail> {
     let mut machine = MapField::empty(alloc);
-    if answers(alloc, words, case, &mut machine)? {
+    if answers(rt, alloc, words, case, &mut machine)? {
         return Err(failed(words, "leaves a record", case));
     }
     Ok(())
 }
 
 /// A call that gives the case's status and writes a text that begins with the case's, or ends with it.
-pub(crate) fn touches(
+pub(crate) fn touches<R: Threads + Wait + Sync>(
+    rt: &R,
     alloc: Global,
     words: &[&str],
     at_front: bool,
@@ -162,7 +173,7 @@ pub(crate) fn touches(
 ) -> Result<(), Fail> {
     let mut machine = MapField::empty(alloc);
     let (front, back, status, part) = case;
-    let answer = call_joined(alloc, words, front, back, &mut machine)?;
+    let answer = call_joined(rt, alloc, words, front, back, &mut machine)?;
     if answer.status == *status && has_part(answer.written.as_slice(), at_front, part.as_bytes()) {
         return Ok(());
     }
@@ -178,33 +189,41 @@ fn has_part(text: &[u8], at_front: bool, part: &[u8]) -> bool {
 }
 
 /// Calls that run documents, one for each case.
-pub(crate) fn all_run(alloc: Global, words: &[&str], cases: &[Case]) -> Result<(), Fail> {
+pub(crate) fn all_run<R: Threads + Wait + Sync>(
+    rt: &R,
+    alloc: Global, words: &[&str], cases: &[Case]) -> Result<(), Fail> {
     for case in cases {
-        runs(alloc, words, case)?;
+        runs(rt, alloc, words, case)?;
     }
     Ok(())
 }
 
 /// Calls that run nothing, one for each case.
-pub(crate) fn all_tell(alloc: Global, words: &[&str], cases: &[Case]) -> Result<(), Fail> {
+pub(crate) fn all_tell<R: Threads + Wait + Sync>(
+    rt: &R,
+    alloc: Global, words: &[&str], cases: &[Case]) -> Result<(), Fail> {
     for case in cases {
-        tells(alloc, words, case)?;
+        tells(rt, alloc, words, case)?;
     }
     Ok(())
 }
 
 /// Calls of which each text begins with the case's.
-pub(crate) fn all_begin(alloc: Global, words: &[&str], cases: &[Case]) -> Result<(), Fail> {
+pub(crate) fn all_begin<R: Threads + Wait + Sync>(
+    rt: &R,
+    alloc: Global, words: &[&str], cases: &[Case]) -> Result<(), Fail> {
     for case in cases {
-        touches(alloc, words, true, case)?;
+        touches(rt, alloc, words, true, case)?;
     }
     Ok(())
 }
 
 /// Calls of which each text ends with the case's.
-pub(crate) fn all_end(alloc: Global, words: &[&str], cases: &[Case]) -> Result<(), Fail> {
+pub(crate) fn all_end<R: Threads + Wait + Sync>(
+    rt: &R,
+    alloc: Global, words: &[&str], cases: &[Case]) -> Result<(), Fail> {
     for case in cases {
-        touches(alloc, words, false, case)?;
+        touches(rt, alloc, words, false, case)?;
     }
     Ok(())
 }

@@ -6,7 +6,9 @@ use cd_base::{MemorySink, MemorySource, read_all};
 use cd_field::{Field, MapField};
 use cd_tree::{Event, NodeId};
 use std::alloc::Global;
+use std::sync::Wait;
 use std::test::Fail;
+use std::thread::Threads;
 
 macro_rules! lists {
     ($($words:expr;)*) => {
@@ -31,14 +33,18 @@ static NOTHING: [&[&str]; 54] = lists! {
 };
 
 // A call with these words writes the usage line, reads nothing, and leaves the machine as the run before left it.
-fn give_nothing(alloc: Global, texts: &[&str]) -> Result<(), Fail> {
+fn give_nothing<R: Threads + Wait + Sync>(
+    rt: &R,
+    alloc: Global,
+    texts: &[&str],
+) -> Result<(), Fail> {
     let words = words_of(alloc, texts)?;
     let mut machine = MapField::empty(alloc);
-    call_joined(alloc, &["run"], FILL, "", &mut machine)?;
+    call_joined(rt, alloc, &["run"], FILL, "", &mut machine)?;
     let text = Vec::from_slice(alloc, FILL.as_bytes())?;
     let mut source = MemorySource::new(text, 1, Vec::new(alloc));
     let mut sink = MemorySink::new(alloc, 1, Vec::new(alloc));
-    let status = run_cd(alloc, &words, &mut source, &mut sink, &mut machine);
+    let status = run_cd(rt, alloc, &words, &mut source, &mut sink, &mut machine);
     let left = read_all(alloc, &mut source, 100)?;
     let last = Some(Event::Complete { node: NodeId(0) });
     if status.code() == 2
@@ -55,7 +61,7 @@ fn give_nothing(alloc: Global, texts: &[&str]) -> Result<(), Fail> {
 #[test]
 fn other_words_read_nothing_and_run_nothing(rt: HostRuntime) -> Result<(), Fail> {
     for texts in &NOTHING {
-        give_nothing(rt.alloc(), texts)?;
+        give_nothing(&rt, rt.alloc(), texts)?;
     }
     Ok(())
 }
@@ -144,7 +150,7 @@ static COMMANDS: [(&[&str], &str); 26] = [
 #[test]
 fn words_give_their_command(rt: HostRuntime) -> Result<(), Fail> {
     for (words, written) in &COMMANDS {
-        touches(rt.alloc(), words, true, &(FILL, "", 0, *written))?;
+        touches(&rt, rt.alloc(), words, true, &(FILL, "", 0, *written))?;
     }
     Ok(())
 }

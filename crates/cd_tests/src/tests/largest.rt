@@ -3,7 +3,9 @@
 use super::calls::{Case, all_begin, all_end, call};
 use cd_field::MapField;
 use std::alloc::Global;
+use std::sync::Wait;
 use std::test::Fail;
+use std::thread::Threads;
 
 /// A root with as many domains as a program may have, in eight groups, after its head.
 macro_rules! many {
@@ -22,11 +24,17 @@ const MANY: &str = many!("cd 1\ndomain root retry 1 detects none\n");
 const MANY_COUNTED: &str = "# accepted domains 2048 items 8 entries 0 words 0 need 0 faults 0\n";
 
 /// A document and its canonical text have the same canonical text, and both are read to the same end.
-fn stays(alloc: Global, document: &str, line: &str, end: &str) -> Result<(), Fail> {
+fn stays<R: Threads + Wait + Sync>(
+    rt: &R,
+    alloc: Global,
+    document: &str,
+    line: &str,
+    end: &str,
+) -> Result<(), Fail> {
     let mut machine = MapField::empty(alloc);
-    let first = call(alloc, &["check"], document.as_bytes(), &mut machine)?;
-    let again = call(alloc, &["check"], first.written.as_slice(), &mut machine)?;
-    let read = call(alloc, &["read"], first.written.as_slice(), &mut machine)?;
+    let first = call(rt, alloc, &["check"], document.as_bytes(), &mut machine)?;
+    let again = call(rt, alloc, &["check"], first.written.as_slice(), &mut machine)?;
+    let read = call(rt, alloc, &["read"], first.written.as_slice(), &mut machine)?;
     if first.status == 0
         && first.written.as_slice().starts_with(line.as_bytes())
         && again.is(0, first.written.as_slice())
@@ -41,6 +49,7 @@ fn stays(alloc: Global, document: &str, line: &str, end: &str) -> Result<(), Fai
 #[test]
 fn as_many_domains_as_there_may_be_are_checked_and_read(rt: HostRuntime) -> Result<(), Fail> {
     stays(
+        &rt,
         rt.alloc(),
         MANY,
         MANY_COUNTED,
@@ -71,6 +80,6 @@ static ENDS: [Case; 2] = cases! {
 
 #[test]
 fn as_many_strikes_as_there_may_be_are_read(rt: HostRuntime) -> Result<(), Fail> {
-    all_end(rt.alloc(), &["read"], &STRUCK)?;
-    all_begin(rt.alloc(), &["read"], &ENDS)
+    all_end(&rt, rt.alloc(), &["read"], &STRUCK)?;
+    all_begin(&rt, rt.alloc(), &["read"], &ENDS)
 }

@@ -2,7 +2,8 @@
 
 ghost use Rattle.std.specs.Prelude.{◌≡◌, ◌<◌, IsTrue, IfOk, false};
 ghost use Rattle.cd_field.specs.Maps.{machine_of};
-ghost use Rattle.cd_tests.specs.Look.{HasFourWords, HasFourWordsLeft, FourArePresent, IsRun, comes_behind_a_run};
+ghost use Rattle.cd_app.specs.Headline.{comes_of_a_run};
+ghost use Rattle.cd_tests.specs.Look.{HasFourWords, HasFourWordsLeft, FourArePresent, IsRun};
 
 use super::calls::{EXHAUSTED, FILL, RECOVERED, call_joined};
 use cd_app::{Status, run_cd};
@@ -11,7 +12,9 @@ use cd_command::Words;
 use cd_field::{Field, MapField};
 use cd_tree::{Event, Kept, Kind, Kinds, NodeId, laws};
 use std::alloc::Global;
+use std::sync::Wait;
 use std::test::Fail;
+use std::thread::Threads;
 
 // The word `run` alone.
 fn run_alone(alloc: Global) -> Result<Words, Fail>
@@ -22,8 +25,8 @@ fn run_alone(alloc: Global) -> Result<Words, Fail>
     Ok(words)
 }
 
-fn comes_behind_a_run(status: &Status) -> bool
-    ensures { result ≡ comes_behind_a_run status.now }
+fn comes_of_a_run(status: &Status) -> bool
+    ensures { result ≡ comes_of_a_run status.now }
 {
     matches!(
         status,
@@ -39,7 +42,8 @@ fn word(machine: &MapField, index: u32) -> u64
 }
 
 // Runs what the source has, and says whether the run came to its end.
-fn runs<S: Source, K: Sink, F: Field>(
+fn runs<R: Threads + Wait + Sync, S: Source, K: Sink, F: Field>(
+    rt: &R,
     alloc: Global,
     words: &Words,
     source: &mut S,
@@ -51,12 +55,18 @@ fn runs<S: Source, K: Sink, F: Field>(
     ensures { IsTrue result → FourArePresent (F.model machine.new) }
 {
     laws::words_stay();
-    let status = run_cd(alloc, words, source, sink, machine);
-    comes_behind_a_run(&status)
+    cd_app::laws::a_run_leaves_what_the_reading_gives();
+    let status = run_cd(rt, alloc, words, source, sink, machine);
+    comes_of_a_run(&status)
 }
 
 // The first four words of the machine after the call `run` on a text; none where the run did not come to its end.
-fn words_behind(alloc: Global, text: &str, failing_write: u64) -> Result<Option<[u64; 4]>, Fail>
+fn words_behind<R: Threads + Wait + Sync>(
+    rt: &R,
+    alloc: Global,
+    text: &str,
+    failing_write: u64,
+) -> Result<Option<[u64; 4]>, Fail>
     requires { HasFourWords text.now }
 {
     let words = run_alone(alloc)?;
@@ -64,7 +74,7 @@ fn words_behind(alloc: Global, text: &str, failing_write: u64) -> Result<Option<
     let mut source = MemorySource::new(text, 4096, Vec::new(alloc));
     let mut sink = MemorySink::new(alloc, 1, Vec::from_slice(alloc, &[failing_write])?);
     let mut machine = MapField::empty(alloc);
-    if runs(alloc, &words, &mut source, &mut sink, &mut machine) {
+    if runs(rt, alloc, &words, &mut source, &mut sink, &mut machine) {
         return Ok(Some(four_words(&machine)));
     }
     Ok(None)
@@ -85,12 +95,19 @@ fn four_words(machine: &MapField) -> [u64; 4]
 const STRUCK: &str =
     "cd 1\nregion y 4 const 0\ndomain root retry 2 detects flip\npreserve y copy\nfill y 7\nend\nfaults\nstrike root 1 1 flip y[0] 255\nstrike root 2 1 flip y[0] 1\n";
 
-fn words_behind_strikes(alloc: Global) -> Result<Option<[u64; 4]>, Fail> {
-    words_behind(alloc, STRUCK, 0)
+fn words_behind_strikes<R: Threads + Wait + Sync>(
+    rt: &R,
+    alloc: Global,
+) -> Result<Option<[u64; 4]>, Fail> {
+    words_behind(rt, alloc, STRUCK, 0)
 }
 
-fn words_behind_fill(alloc: Global, failing_write: u64) -> Result<Option<[u64; 4]>, Fail> {
-    words_behind(alloc, FILL, failing_write)
+fn words_behind_fill<R: Threads + Wait + Sync>(
+    rt: &R,
+    alloc: Global,
+    failing_write: u64,
+) -> Result<Option<[u64; 4]>, Fail> {
+    words_behind(rt, alloc, FILL, failing_write)
 }
 
 /// Fails unless these are the words that a run left.
@@ -103,14 +120,14 @@ fn are(found: Option<[u64; 4]>, wanted: [u64; 4]) -> Result<(), Fail> {
 
 #[test]
 fn words_are_there_after_a_run(rt: HostRuntime) -> Result<(), Fail> {
-    are(words_behind_fill(rt.alloc(), 0)?, [7, 7, 7, 7])?;
-    are(words_behind_strikes(rt.alloc())?, [0, 0, 0, 0])
+    are(words_behind_fill(&rt, rt.alloc(), 0)?, [7, 7, 7, 7])?;
+    are(words_behind_strikes(&rt, rt.alloc())?, [0, 0, 0, 0])
 }
 
 #[test]
 fn a_fault_at_any_write_leaves_the_words(rt: HostRuntime) -> Result<(), Fail> {
     for call in 1..50 {
-        are(words_behind_fill(rt.alloc(), call)?, [7, 7, 7, 7])?;
+        are(words_behind_fill(&rt, rt.alloc(), call)?, [7, 7, 7, 7])?;
     }
     Ok(())
 }
@@ -146,9 +163,15 @@ fn tried(number: u64, entry: Event, kinds: Kinds) -> [Event; 5] {
 
 /// The machine has these events after the call `run` on a document with strikes: a try that found a flip, one that found
 /// these kinds, and the last ones.
-fn leaves(alloc: Global, strikes: &str, kinds: Kinds, last: &[Event]) -> Result<(), Fail> {
+fn leaves<R: Threads + Wait + Sync>(
+    rt: &R,
+    alloc: Global,
+    strikes: &str,
+    kinds: Kinds,
+    last: &[Event],
+) -> Result<(), Fail> {
     let mut machine = MapField::empty(alloc);
-    call_joined(alloc, &["run"], FILL, strikes, &mut machine)?;
+    call_joined(rt, alloc, &["run"], FILL, strikes, &mut machine)?;
     let flip = Kinds::none().with(Kind(0));
     let mut events = Vec::from_slice(alloc, &tried(1, SAVED, flip))?;
     events.extend_from_slice(&tried(2, REFILLED, kinds))?;
@@ -167,11 +190,11 @@ fn leaves(alloc: Global, strikes: &str, kinds: Kinds, last: &[Event]) -> Result<
 #[test]
 fn a_recovered_run_leaves_its_record(rt: HostRuntime) -> Result<(), Fail> {
     let last = [Event::Complete { node: NODE }];
-    leaves(rt.alloc(), RECOVERED, Kinds::none(), &last)
+    leaves(&rt, rt.alloc(), RECOVERED, Kinds::none(), &last)
 }
 
 #[test]
 fn an_exhausted_run_ends_with_its_refill(rt: HostRuntime) -> Result<(), Fail> {
     let last = [REFILLED, Event::Escalate { node: NODE }];
-    leaves(rt.alloc(), EXHAUSTED, Kinds::none().with(Kind(0)), &last)
+    leaves(&rt, rt.alloc(), EXHAUSTED, Kinds::none().with(Kind(0)), &last)
 }

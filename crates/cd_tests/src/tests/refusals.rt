@@ -4,7 +4,9 @@ use super::calls::{Case, all_begin, all_tell, tells, touches};
 use super::documents::joined;
 use super::texts::COPIED;
 use std::alloc::Global;
+use std::sync::Wait;
 use std::test::Fail;
+use std::thread::Threads;
 
 /// A document with one domain, up to its first item.
 const ONE: &str = "region y 4 const 0\ndomain root retry 2 detects flip\npreserve y copy\n";
@@ -125,7 +127,8 @@ static REFUSED: [(&str, &str, &str, &str); 18] = [
 const KINDS: &str = "cd 2\nkind flip\nkind lost\nkind link\nkind node\n";
 
 /// A document in three parts, which each action refuses with this line.
-fn each_action_tells(
+fn each_action_tells<R: Threads + Wait + Sync>(
+    rt: &R,
     alloc: Global,
     head: &str,
     front: &str,
@@ -134,7 +137,7 @@ fn each_action_tells(
 ) -> Result<(), Fail> {
     let text = joined(alloc, &[head, front])?;
     for word in ["check", "read", "lift", "run"] {
-        tells(alloc, &[word], &(text.as_str(), back, 3, line))?;
+        tells(rt, alloc, &[word], &(text.as_str(), back, 3, line))?;
     }
     Ok(())
 }
@@ -142,8 +145,8 @@ fn each_action_tells(
 #[test]
 fn refused_documents_are_told_by_each_action(rt: HostRuntime) -> Result<(), Fail> {
     for (front, back, first, second) in &REFUSED {
-        each_action_tells(rt.alloc(), "cd 1\n", front, back, first)?;
-        each_action_tells(rt.alloc(), KINDS, front, back, second)?;
+        each_action_tells(&rt, rt.alloc(), "cd 1\n", front, back, first)?;
+        each_action_tells(&rt, rt.alloc(), KINDS, front, back, second)?;
     }
     Ok(())
 }
@@ -184,7 +187,7 @@ static FIRSTS: [Case; 17] = cases! {
 
 #[test]
 fn of_two_refusals_the_first_is_told(rt: HostRuntime) -> Result<(), Fail> {
-    all_tell(rt.alloc(), &["check"], &FIRSTS)
+    all_tell(&rt, rt.alloc(), &["check"], &FIRSTS)
 }
 
 /// The lines of a document, each with what `check` answers where the text ends after it: the status, and the front of the
@@ -245,8 +248,7 @@ fn a_document_is_refused_where_it_is_cut(rt: HostRuntime) -> Result<(), Fail> {
     let mut text = String::new(rt.alloc());
     for (line, status, written) in &CUTS {
         text.push_str(line)?;
-        touches(
-            rt.alloc(),
+        touches(&rt, rt.alloc(),
             &["check"],
             true,
             &(text.as_str(), "", *status, *written),
@@ -337,5 +339,5 @@ static LIMITS: [Case; 24] = cases! {
 
 #[test]
 fn limits_are_kept_and_told(rt: HostRuntime) -> Result<(), Fail> {
-    all_begin(rt.alloc(), &["check"], &LIMITS)
+    all_begin(&rt, rt.alloc(), &["check"], &LIMITS)
 }

@@ -1,15 +1,15 @@
 //! What `run` writes: reports, records, and that a call does not depend on the call before.
 
 use super::calls::{
-    Case, EXHAUSTED, FILL, FILLED, RECOVERED, all_run, all_tell, call, call_failing, call_joined,
+    Case, EXHAUSTED, FILL, FILLED, RECOVERED, all_run, call, call_failing, call_joined,
 };
-use super::texts::{
-    ANEW, COPIED, HALTED, HALTING, LEAKING, LEAKING_STRUCK, MEMBERS, NAMED, NAMED_STRUCK, NESTED,
-    NESTED_STRUCK, PRODUCT, PRODUCT_STRUCK, REFERRING, SHARING, STRUCK_99, STRUCK_100, TRIED,
-};
+use super::runs;
+use super::texts::{COPIED, NAMED, NAMED_STRUCK, NESTED, STRUCK_99, STRUCK_100, TRIED};
 use cd_field::MapField;
 use std::alloc::Global;
+use std::sync::Wait;
 use std::test::Fail;
+use std::thread::Threads;
 
 const TWICE: &str = "committed\nregion y 7 7 7 7\nbegins root 2\ntotal 2\n";
 
@@ -162,7 +162,7 @@ static DOCUMENTS: [Case; 17] = cases! {
 
 #[test]
 fn documents_are_run_and_reported(rt: HostRuntime) -> Result<(), Fail> {
-    all_run(rt.alloc(), &["run"], &DOCUMENTS)
+    all_run(&rt, rt.alloc(), &["run"], &DOCUMENTS)
 }
 
 /// A report of two tries of which the first is struck, with its record: its first lines, and the last events.
@@ -206,29 +206,7 @@ static RECORDS: [Case; 5] = cases! {
 
 #[test]
 fn records_are_written_where_they_are_asked_for(rt: HostRuntime) -> Result<(), Fail> {
-    all_run(rt.alloc(), &["run", "--record"], &RECORDS)
-}
-
-/// Documents in two parts that are accepted, and that the engine cannot run as yet: domains below the root, entries that
-/// are references or patterns, kinds that halt.
-static UNBUILT: [Case; 11] = cases! {
-    NESTED, "" => 9, "not built yet\n";
-    NESTED, NESTED_STRUCK => 9, "not built yet\n";
-    LEAKING, LEAKING_STRUCK => 9, "not built yet\n";
-    MEMBERS, "" => 9, "not built yet\n";
-    REFERRING, "" => 9, "not built yet\n";
-    SHARING, "" => 9, "not built yet\n";
-    PRODUCT, PRODUCT_STRUCK => 9, "not built yet\n";
-    HALTING, HALTED => 9, "not built yet\n";
-    ANEW, "fill y 7\nend\n" => 9, "not built yet\n";
-    "cd 1\nregion y 4 const 0\ndomain root retry 2 detects flip\npreserve y[0..2] copy\n", "preserve y[2..4] regen const 0\nend\n" => 9, "not built yet\n";
-    "cd 2\nkind flip halt\nregion y 4 const 0\ndomain root retry 2 detects flip\n", "preserve y copy\nfill y 7\nend\n" => 9, "not built yet\n";
-};
-
-#[test]
-fn what_the_engine_lacks_is_not_run(rt: HostRuntime) -> Result<(), Fail> {
-    all_tell(rt.alloc(), &["run", "--workers=2"], &UNBUILT)?;
-    all_tell(rt.alloc(), &["run", "--record"], &UNBUILT)
+    all_run(&rt, rt.alloc(), &["run", "--record"], &RECORDS)
 }
 
 /// Calls by the status that they give: a word and a document, and the numbers of the read and of the write that fail.
@@ -248,11 +226,12 @@ static STATUSES: [(&str, &str, u64, u64, u8); 10] = [
     ("run", FILL, 3, 0, 4),
     ("run", FILL, 0, 2, 5),
     ("read", FILL, 0, 2, 5),
-    ("run", NESTED, 0, 0, 9),
+    ("run", NESTED, 0, 0, 0),
 ];
 
 /// Runs with the record on a machine that a call with this status used answer as on an empty one.
-fn run_as_ever(
+fn run_as_ever<R: Threads + Wait + Sync>(
+    rt: &R,
     alloc: Global,
     word: &str,
     text: &str,
@@ -260,20 +239,36 @@ fn run_as_ever(
     status: u8,
 ) -> Result<(), Fail> {
     let mut machine = MapField::empty(alloc);
-    let before = call_failing(alloc, &[word], text, failing, &mut machine)?;
-    for (front, back, wanted, written) in &RECORDS {
-        let answer = call_joined(alloc, &["run", "--record"], front, back, &mut machine)?;
-        if before.status != status || !answer.is(*wanted, written.as_bytes()) {
-            return Err(Fail::new(format_args!("{word} {status} changes the next run")));
-        }
+    let before = call_failing(rt, alloc, &[word], text, failing, &mut machine)?;
+    if before.status != status
+        || !answer_as_ever(rt, alloc, &RECORDS, &mut machine)?
+        || !answer_as_ever(rt, alloc, &runs::RECORDS, &mut machine)?
+    {
+        return Err(Fail::new(format_args!("{word} {status} changes the next run")));
     }
     Ok(())
+}
+
+/// Whether runs with the record, one after the other on one machine, answer as their cases say.
+fn answer_as_ever<R: Threads + Wait + Sync>(
+    rt: &R,
+    alloc: Global,
+    cases: &[Case],
+    machine: &mut MapField,
+) -> Result<bool, Fail> {
+    for (front, back, wanted, written) in cases {
+        let answer = call_joined(rt, alloc, &["run", "--record"], front, back, machine)?;
+        if !answer.is(*wanted, written.as_bytes()) {
+            return Ok(false);
+        }
+    }
+    Ok(true)
 }
 
 #[test]
 fn calls_do_not_depend_on_the_call_before(rt: HostRuntime) -> Result<(), Fail> {
     for (word, text, read, write, status) in &STATUSES {
-        run_as_ever(rt.alloc(), word, text, (*read, *write), *status)?;
+        run_as_ever(&rt, rt.alloc(), word, text, (*read, *write), *status)?;
     }
     Ok(())
 }
@@ -286,11 +281,16 @@ static LENGTHS: [(usize, &str); 3] = [
 ];
 
 /// What each action refuses of as many blanks.
-fn each_refuses(alloc: Global, length: usize, written: &str) -> Result<(), Fail> {
+fn each_refuses<R: Threads + Wait + Sync>(
+    rt: &R,
+    alloc: Global,
+    length: usize,
+    written: &str,
+) -> Result<(), Fail> {
     let blanks = vec![in alloc; b' '; length]?;
     for word in ["run", "check", "read", "lift"] {
         let mut machine = MapField::empty(alloc);
-        let answer = call(alloc, &[word], blanks.as_slice(), &mut machine)?;
+        let answer = call(rt, alloc, &[word], blanks.as_slice(), &mut machine)?;
         if !answer.is(3, written.as_bytes()) {
             return Err(Fail::new(format_args!("{word} of {length} bytes")));
         }
@@ -301,7 +301,7 @@ fn each_refuses(alloc: Global, length: usize, written: &str) -> Result<(), Fail>
 #[test]
 fn a_text_past_the_limit_is_too_long(rt: HostRuntime) -> Result<(), Fail> {
     for (length, written) in &LENGTHS {
-        each_refuses(rt.alloc(), *length, written)?;
+        each_refuses(&rt, rt.alloc(), *length, written)?;
     }
     Ok(())
 }

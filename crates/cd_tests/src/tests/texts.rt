@@ -213,29 +213,44 @@ strike root/part3 3 0 lost x[7] 0
 strike root/part1/rows2 4 1 flip y[100] 255
 ";
 
-/// How often each domain of the product begins under them.
-pub(crate) const PRODUCT_READ: &str = "\
-committed
-begins root 3
-begins root/part0 3
-begins root/part0/rows0 6
-begins root/part0/rows1 4
-begins root/part0/rows2 3
-begins root/part0/rows3 3
-begins root/part1 4
-begins root/part1/rows0 4
-begins root/part1/rows1 4
-begins root/part1/rows2 5
-begins root/part1/rows3 4
-begins root/part2 4
-begins root/part2/rows0 4
-begins root/part2/rows1 4
-begins root/part2/rows2 4
-begins root/part2/rows3 4
-begins root/part3 4
-begins root/part3/rows0 4
-begins root/part3/rows1 4
-begins root/part3/rows2 4
-begins root/part3/rows3 4
-total 83
-";
+// What is reported of the product under them: the lines of regions, and how often each domain begins.
+macro_rules! product {
+    ($regions:literal) => {
+        concat!(
+            "committed\n",
+            $regions,
+            "begins root 3\n",
+            "begins root/part0 3\n",
+            "begins root/part0/rows0 6\n",
+            "begins root/part0/rows1 4\n",
+            "begins root/part0/rows2 3\n",
+            "begins root/part0/rows3 3\n",
+            "begins root/part1 4\n",
+            "begins root/part1/rows0 4\n",
+            "begins root/part1/rows1 4\n",
+            "begins root/part1/rows2 5\n",
+            "begins root/part1/rows3 4\n",
+            "begins root/part2 4\n",
+            "begins root/part2/rows0 4\n",
+            "begins root/part2/rows1 4\n",
+            "begins root/part2/rows2 4\n",
+            "begins root/part2/rows3 4\n",
+            "begins root/part3 4\n",
+            "begins root/part3/rows0 4\n",
+            "begins root/part3/rows1 4\n",
+            "begins root/part3/rows2 4\n",
+            "begins root/part3/rows3 4\n",
+            "total 83\n"
+        )
+    };
+}
+
+pub(crate) const PRODUCT_READ: &str = product!("");
+
+pub(crate) const PRODUCT_RUN: &str = product!(
+    "region starts length 257 sum 65792 weighted 11316224\n\
+    region cols length 512 sum 130816 weighted 44739072\n\
+    region vals length 512 sum 1536 weighted 393984\n\
+    region x length 512 sum 131328 weighted 44870400\n\
+    region y length 256 sum 393984 weighted 67403904\n"
+);

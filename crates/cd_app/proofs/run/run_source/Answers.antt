@@ -12,11 +12,11 @@ returns-in-Ok g c =
     λ words asked.
     c.judge.ensures
     (call_of words (g.S.Source.model c.args.source.now) (g.S.Source.model c.receive.new.source) (g.F.Field.model c.args.machine.now) (g.F.Field.model c.judge.new.machine))
-    asked (takes_by words (runs one_document c.args.with_record) one_document asked refl) c.in-Ok.ensures refl refl
+    asked (takes_by words (runs one_document c.args.asked.with_record) one_document asked refl) c.in-Ok.ensures refl refl
 
 pub returns-in-Err : goal.returns-in-Err
 returns-in-Err g c =
     λ words asked.
     c.tell.ensures
     (call_of words (g.S.Source.model c.args.source.now) (g.S.Source.model c.receive.new.source) (g.F.Field.model c.args.machine.now) (g.F.Field.model c.args.machine.now))
-    (takes_by words (runs one_document c.args.with_record) one_document asked refl) refl c.in-Err.ensures
+    (takes_by words (runs one_document c.args.asked.with_record) one_document asked refl) refl c.in-Err.ensures

@@ -1,0 +1,116 @@
+//! A document's program on a machine: the root's part is carved out, the engine runs on it, and it is taken back.
+
+ghost use Rattle.std.specs.Prelude.{IfOk};
+ghost use Rattle.cd_core.specs.StateLaws.{CanStart};
+ghost use Rattle.cd_fork.specs.Running.{FewBegins, RanTo};
+ghost use Rattle.cd_app.specs.Parts.{IsPassed};
+ghost use Rattle.cd_app.specs.Parting.{CanRun, CanTakeBack, IsCarved, TookBack};
+ghost use Rattle.cd_app.specs.Running.{HasRun};
+
+use crate::need::whole_need;
+use cd_base::NoMemory;
+use cd_core::Outcome;
+use cd_cover::Plan;
+use cd_field::Field;
+use cd_fork::run_root;
+use cd_keep::{ArcPass, Pass};
+use cd_tree::{Begins, Cause, Document, NodeId, Script, laws};
+use std::alloc::Global;
+use std::sync::Wait;
+use std::thread::Threads;
+
+// Loads a machine and runs a document's program on it: how often each domain began, and why the root escalated, where it did.
+pub(crate) fn run_machine<R: Threads + Wait + Sync, F: Field>(
+    rt: &R,
+    alloc: Global,
+    workers: u32,
+    document: &Document,
+    plan: &Plan,
+    script: &Script,
+    machine: &mut F,
+) -> Result<(Begins, Option<Cause>), NoMemory>
+    requires { IsPassed document.now plan.now script.now }
+    ensures { IfOk result (λ ran. HasRun document.now script.now (F.model machine.new) ran.0 ran.1) }
+{
+    cd_cover::laws::outer_references_lead_out();
+    cd_cover::laws::subtrees_are_seen_on_paths();
+    laws::a_domain_sees_what_it_reads_alone();
+    laws::each_domain_is_as_its_program();
+    laws::declared_kinds_are_found_at_the_root();
+    let part = root_part(document, plan, script, machine)?;
+    let outcome = run_part(rt, alloc, workers, plan, part)?;
+    let ran = take_back(machine, outcome)?;
+    Ok(ran)
+}
+
+// Loads a machine, and carves out the part that the root reaches.
+fn root_part<F: Field>(
+    document: &Document,
+    plan: &Plan,
+    script: &Script,
+    machine: &mut F,
+) -> Result<F, NoMemory>
+    requires { IsPassed document.now plan.now script.now }
+    ensures carved { IfOk result (λ part. IsCarved plan.now document.now.regions script.now (F.model part) (F.model machine.new)) }
+    ensures can { IfOk result (λ part. CanRun plan.now (F.model part)) }
+{
+    laws::a_covered_domain_reaches_its_entries_alone();
+    prove!(0 < plan.tree().count());
+    machine.load(&document.regions, script)?;
+    let feet = plan.feet();
+    let part = machine.carve(feet.reads(NodeId(0)), feet.writes(NodeId(0)))?;
+    Ok(part)
+}
+
+// Runs the program on the part of a machine that its root reaches, with as much room for copies as the root needs.
+fn run_part<R: Threads + Wait + Sync, F: Field>(
+    rt: &R,
+    alloc: Global,
+    workers: u32,
+    plan: &Plan,
+    part: F,
+) -> Result<Outcome<F>, NoMemory>
+    requires { CanRun plan.now (F.model part) }
+    ensures ran { IfOk result (RanTo F.model plan.now (F.model part)) }
+    ensures few { IfOk result (FewBegins (F.model part)) }
+{
+    let pass = ArcPass::open(alloc, whole_need(plan))?;
+    run_with(rt, alloc, workers, plan, part, pass)
+}
+
+// Runs it with a pass that has the room.
+fn run_with<R: Threads + Wait + Sync, F: Field, P: Pass>(
+    rt: &R,
+    alloc: Global,
+    workers: u32,
+    plan: &Plan,
+    part: F,
+    pass: P,
+) -> Result<Outcome<F>, NoMemory>
+    requires { CanStart plan.now (F.model part) (P.model pass) }
+    ensures ran { IfOk result (RanTo F.model plan.now (F.model part)) }
+    ensures few { IfOk result (FewBegins (F.model part)) }
+{
+    run_root(rt, alloc, plan, part, pass, workers)
+}
+
+// Takes the root's part back: after a run that committed with the program's words, after one that was exhausted with those that
+// the root restored.
+fn take_back<F: Field>(
+    machine: &mut F,
+    outcome: Outcome<F>,
+) -> Result<(Begins, Option<Cause>), NoMemory>
+    requires { CanTakeBack F.model (F.model machine.old) outcome }
+    ensures { IfOk result (λ ran. TookBack F.model (F.model machine.old) (F.model machine.new) outcome ran.0 ran.1) }
+{
+    match outcome {
+        Outcome::Committed(part, begins) => {
+            machine.absorb(part, true)?;
+            Ok((begins, None))
+        }
+        Outcome::Exhausted(restored, begins, cause) => {
+            machine.absorb(restored, true)?;
+            Ok((begins, Some(cause)))
+        }
+    }
+}

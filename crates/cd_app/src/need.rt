@@ -1,0 +1,15 @@
+//! How many blocks the run of a whole program needs.
+
+ghost use Rattle.std.specs.Prelude.{◌≡◌};
+ghost use Rattle.cd_app.specs.Running.{need_of};
+
+use cd_cover::Plan;
+use cd_tree::NodeId;
+
+// The blocks that a run of the whole program needs.
+pub(crate) fn whole_need(plan: &Plan) -> u32
+    ensures { result ≡ need_of plan.now.tree }
+{
+    prove!(0 < plan.tree().count());
+    plan.need(NodeId(0))
+}

@@ -1,7 +1,0 @@
-pub mod Copying
-pub mod Points
-pub mod Frames
-pub mod Restoring
-pub mod Following
-pub mod Tries
-pub mod Ends
