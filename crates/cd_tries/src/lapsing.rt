@@ -1,8 +1,8 @@
 // A pass of the tests that answers Gone.
-ghost use Rattle.std.specs.Prelude.{◌≡◌, IfOk};
+ghost use Rattle.std.specs.Prelude.{◌≡◌, true, false, None, IfOk};
 ghost use Rattle.cd_keep.specs.Arcs.{model_of};
 ghost use Rattle.cd_keep.specs.PassModel.{opened};
-ghost use Rattle.cd_tries.specs.Board.{HasTurn, lapsing, turn_of_both};
+ghost use Rattle.cd_tries.specs.Board.{IsMain, lapsing};
 
 use cd_base::NoMemory;
 use cd_keep::{ArcPass, GoneNote, KeepId, Pass};
@@ -10,31 +10,28 @@ use std::alloc::Global;
 use std::sync::Wait;
 use std::test::Fail;
 
-// Whether a pass answers Gone: never, after so many shares, or it has.
-#[derive(Clone, Copy)]
-pub(crate) enum Turn {
-    Never,
-    After(u32),
-    Had(KeepId),
-}
-
 // A pass that answers Gone once, when so many shares were made. One that may, or has, keeps more than half of the room at
 // opening: so no two of them are of one opening, and it is not split.
 #[derive(Drop)]
 pub(crate) struct Lapsing {
     inner: ArcPass,
-    turn: Turn,
-    ghost main: { HasTurn (model_of inner) turn },
+    may: bool,
+    shares: u32,
+    answered: Option<KeepId>,
+    ghost main: { may ≡ true → IsMain (model_of inner) },
+    ghost own: { may ≡ false → answered ≡ None },
 }
 
 impl Lapsing {
     // A pass with room for nine holds that answers Gone after so many shares.
     pub(crate) fn after(alloc: Global, shares: u32) -> Result<Lapsing, Fail>
-        ensures { IfOk result (λ pass. lapsing (model_of pass.inner) pass.turn ≡ opened 0 9) }
+        ensures { IfOk result (λ pass. lapsing (model_of pass.inner) pass.answered ≡ opened 0 9) }
     {
         Ok(Lapsing {
             inner: ArcPass::open(alloc, 9)?,
-            turn: Turn::After(shares),
+            may: true,
+            shares,
+            answered: None,
         })
     }
 }
@@ -43,7 +40,7 @@ impl Pass for Lapsing {
     ghost use Rattle.cd_keep.specs.Arcs.{model_of, held_within_most, most_is_few, words_are_short};
     ghost use Rattle.cd_tries.specs.Board.{lapsing};
 
-    ghost model = { λ pass. lapsing (model_of pass.inner) pass.turn };
+    ghost model = { λ pass. lapsing (model_of pass.inner) pass.answered };
 
     ghost within = { λ pass. held_within_most pass.inner };
 
@@ -56,30 +53,25 @@ impl Pass for Lapsing {
     }
 
     fn split(&mut self, room: u32) -> Result<Self, NoMemory> {
-        match self.turn {
-            Turn::Never => {
-                let inner = self.inner.split(room)?;
-                Ok(Lapsing {
-                    inner,
-                    turn: Turn::Never,
-                })
-            }
-            _ => Err(NoMemory),
+        if self.may {
+            return Err(NoMemory);
         }
+        let inner = self.inner.split(room)?;
+        Ok(Lapsing {
+            inner,
+            may: false,
+            shares: 0,
+            answered: None,
+        })
     }
 
     fn share(&mut self, seen: KeepId) -> Result<(), GoneNote> {
-        match self.turn {
-            Turn::After(0) => {
-                self.turn = Turn::Had(seen);
-                Err(gone())
-            }
-            Turn::After(shares) => {
-                self.turn = Turn::After(shares - 1);
-                self.inner.share(seen)
-            }
-            _ => self.inner.share(seen),
+        if self.may && self.shares == 0 && self.answered.is_none() {
+            self.answered = Some(seen);
+            return Err(gone());
         }
+        self.shares = self.shares.saturating_sub(1);
+        self.inner.share(seen)
     }
 
     fn word(&mut self, id: KeepId, i: u32) -> u64 {
@@ -91,19 +83,18 @@ impl Pass for Lapsing {
     }
 
     fn join(&mut self, child: Self) {
-        let Lapsing { inner, turn } = child;
+        let Lapsing {
+            inner,
+            may,
+            shares,
+            answered,
+        } = child;
         self.inner.join(inner);
-        self.turn = of_both(self.turn, turn);
-    }
-}
-
-// The turn of a pass that takes another back.
-fn of_both(own: Turn, other: Turn) -> Turn
-    ensures { result ≡ turn_of_both own other }
-{
-    match own {
-        Turn::Never => other,
-        _ => own,
+        if may {
+            self.may = true;
+            self.shares = shares;
+            self.answered = answered;
+        }
     }
 }
 
