@@ -1,11 +1,12 @@
 -- What the tests of preserving run on: a board of 200 words that a pass keeps, and an entry that is a part of it.
-use Rattle.std.specs.Prelude.{◌≡◌, ◌+◌, ◌<◌, ◌≤◌, true, List, [], ◌∷◌, ◌++◌, length}
+use Rattle.std.specs.Prelude.{◌≡◌, ◌+◌, ◌<◌, ◌≤◌, true, List, [], ◌∷◌, ◌++◌, length, Option, None, Some}
 use Rattle.cd_base.specs.declared.place.Place.{Place}
 use Rattle.cd_base.specs.declared.place.Range.{Range}
 use Rattle.cd_base.specs.Words.{in_range}
 use Rattle.cd_tree.specs.declared.domain.Entry.{Entry}
 use Rattle.cd_field.specs.FieldModel.{FieldModel, IsPresent}
-use Rattle.cd_keep.specs.PassModel.{PassModel}
+use Rattle.cd_keep.specs.declared.keep_id.KeepId.{KeepId}
+use Rattle.cd_keep.specs.PassModel.{PassModel, Gone}
 use Rattle.cd_tries.specs.declared.keep.Keep.{Keep}
 use Rattle.cd_tries.specs.declared.keep.Pieces.{Pieces}
 use Rattle.cd_tries.specs.Keeping.{Cover, KeepFits, KeepsFit, HoldsThese, all_ids, keep_ids}
@@ -41,3 +42,15 @@ pub record IsKept (entry : Entry) (keeps : List Keep) (p : PassModel) : Type 0 w
   pub fit : KeepsFit p.known (entry ∷ []) keeps
   pub holds : HoldsThese p (all_ids keeps)
   pub room : p.room + length (all_ids keeps) ≡ 9
+
+-- a pass that has answered Gone for this id, or not yet
+abbrev pub gone_of : Option KeepId → List Gone
+gone_of None = []
+gone_of (Some id) = record { id = id; note = record { seen = 1; found = 2 } } ∷ []
+
+abbrev pub lapsing : PassModel → Option KeepId → PassModel
+lapsing p answered = record p { gone = gone_of answered }
+
+-- more than half of the room at opening is here
+abbrev pub IsMain : PassModel → Type 0
+IsMain p = p.most < (p.held + p.room) + (p.held + p.room)

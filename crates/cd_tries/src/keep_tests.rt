@@ -9,6 +9,7 @@ ghost use Rattle.cd_tries.specs.Keeping.{HoldsThese, all_ids};
 
 use crate::copying::copy_range;
 use crate::giving_up::give_up_ids;
+use crate::lapsing::Lapsing;
 use crate::patterns::first_other;
 use crate::preserving::preserve_entry;
 use crate::{Keep, Pieces, give_up_all, refill_all};
@@ -30,6 +31,7 @@ const ROOM: u32 = 9;
 #[derive(Clone, Copy)]
 enum Before {
     Nothing,
+    Lapse,
     Fall { index: u32, wanted: u64, found: u64 },
 }
 
@@ -45,6 +47,19 @@ struct Case {
     count: usize,
     before: Before,
 }
+
+// The third of three pieces is gone: the range is copied, and what was shared before is held no more.
+static LAPSED: Case = Case {
+    name: "a piece is gone, and the words are copied",
+    low: 60,
+    high: 130,
+    how: How::Refer,
+    kept: Kept::Copy,
+    begin: 60,
+    end: 130,
+    count: 2,
+    before: Before::Lapse,
+};
 
 // The board's pieces begin at 0, 64, 128 and 192.
 static TABLE: [Case; 9] = [
@@ -327,6 +342,12 @@ fn is_of(case: &Case, link: &[KeepId], ids: &[KeepId]) -> bool {
 fn told_before(case: &Case) -> Option<Event> {
     match case.before {
         Before::Nothing => None,
+        Before::Lapse => Some(Event::Lapsed {
+            node: NodeId(0),
+            entry: 1,
+            seen: 1,
+            found: 2,
+        }),
         Before::Fall {
             index,
             wanted,
@@ -407,4 +428,11 @@ fn entries_are_kept_put_back_and_given_up(rt: HostRuntime) -> Result<(), Fail> {
         let _all = pass.split(ROOM)?;
     }
     Ok(())
+}
+
+#[test]
+fn words_are_copied_where_a_piece_is_gone(rt: HostRuntime) -> Result<(), Fail> {
+    let mut field = ScriptField::empty(rt.alloc());
+    let mut pass = Lapsing::after(rt.alloc(), 2)?;
+    comes_of(&rt, rt.alloc(), &LAPSED, &mut field, &mut pass)
 }

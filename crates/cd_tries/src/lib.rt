@@ -37,6 +37,8 @@ pub use tries::{Attempt, Course, Stop, go_on, try_again};
 #[cfg(test)]
 mod keep_tests;
 #[cfg(test)]
+mod lapsing;
+#[cfg(test)]
 mod preserve_tests;
 #[cfg(test)]
 mod try_tests;
