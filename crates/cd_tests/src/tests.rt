@@ -26,4 +26,5 @@ mod machines;
 mod refusals;
 mod reports;
 mod runs;
+mod shapes;
 mod texts;
