@@ -22,7 +22,6 @@ use Rattle.cd_core.specs.declared.state.Ending.TheVariants.{Done, Escalated}
 use Rattle.cd_core.specs.declared.state.Stage.{Stage}
 use Rattle.cd_core.specs.declared.state.Stage.TheVariants.{Ended}
 use Rattle.cd_core.specs.Advancing.{members_at}
-use Rattle.cd_core.specs.Asks.{EachAnswers}
 use Rattle.cd_core.specs.Fits.{Fits, FitsEnded, FitsStage, IsHere, IsHereAtEnd}
 use Rattle.cd_core.specs.GroupSample.{HasSent, HasTaken, HasTurned, IsOver, IsRootPart}
 use Rattle.cd_core.specs.Resuming.{nodes_of}
@@ -202,8 +201,8 @@ root_part plan feet other reads writes whole part is_plan same also reading writ
     λ q. ap (λ (ranges : List Range). in_ranges ranges q) o.2 ∙ (root_foot plan other o.0 is_plan also o.1).writes q in
     let there : (q : Place) → node_reach d q ≡ true → IsPresent whole q =
     λ q reached. elim (or_cases (node_reads d q) (node_writes d q) reached) [
-      inl e ↦ known q (read q ∙ e)
-    | inr e ↦ written q (wrote q ∙ e)
+      | inl e ↦ known q (read q ∙ e)
+      | inr e ↦ written q (wrote q ∙ e)
     ] in
     let P : FieldModel → Type 0 = λ m. IsRootPart plan m in
     subst P (sym is) (record {
