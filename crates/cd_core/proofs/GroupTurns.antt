@@ -22,7 +22,6 @@ use Rattle.cd_core.specs.declared.state.Ending.TheVariants.{Done, Escalated}
 use Rattle.cd_core.specs.declared.state.Stage.{Stage}
 use Rattle.cd_core.specs.declared.state.Stage.TheVariants.{Ended}
 use Rattle.cd_core.specs.Advancing.{members_at}
-use Rattle.cd_core.specs.Asks.{EachAnswers}
 use Rattle.cd_core.specs.Fits.{Fits, FitsEnded, FitsStage, IsHere, IsHereAtEnd}
 use Rattle.cd_core.specs.GroupSample.{HasSent, HasTaken, HasTurned, IsOver, IsRootPart}
 use Rattle.cd_core.specs.Resuming.{nodes_of}

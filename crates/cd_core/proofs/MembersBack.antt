@@ -13,7 +13,7 @@ use Rattle.cd_tree.specs.declared.event.Cause.{Cause}
 use Rattle.cd_tree.specs.Domains.{Node, node, node_of}
 use Rattle.cd_tree.specs.Laws.{NestedViewFollows}
 use Rattle.cd_tree.specs.Meaning.{node_need, node_reads, node_writes}
-use Rattle.cd_field.specs.FieldModel.{FieldModel, ArePresent, CanAbsorb, without}
+use Rattle.cd_field.specs.FieldModel.{FieldModel, ArePresent, without}
 use Rattle.cd_keep.specs.PassModel.{PassModel}
 use Rattle.cd_keep.specs.PassModel as passes
 use Rattle.cd_cover.specs.PlanLaws.{need_of}
@@ -26,11 +26,10 @@ use Rattle.cd_core.specs.declared.state.Stage.TheVariants.{Ready, Waiting, Resum
 use Rattle.cd_core.specs.declared.verdict.Verdict.{Verdict}
 use Rattle.cd_core.specs.declared.verdict.Verdict.TheVariants.{Waits, Completes, Escalates}
 use Rattle.cd_core.specs.StateModel.{StateModel}
-use Rattle.cd_core.specs.Fits.{Fits, FitsEnded, FitsStage, FitsWaiting, IsHere, IsHereAtEnd}
+use Rattle.cd_core.specs.Fits.{FitsEnded, FitsStage, FitsWaiting, IsHere, IsHereAtEnd}
 use Rattle.cd_core.specs.Advancing.{all_sent, field_behind, members_at, pass_behind, sent, state_behind, state_sending}
-use Rattle.cd_core.specs.Asks.{Answers, EachAnswers, foot_of, member_ask, task_of}
+use Rattle.cd_core.specs.Asks.{Answers, foot_of, member_ask, task_of}
 use Rattle.cd_core.specs.Resuming.{CanTake, CanTakeEach, all_done, escalation, first_escalation, nodes_of, with_more}
-use Rattle.cd_core.specs.StateLaws.{TakesBack}
 use Rattle.cd_core.specs.Steps.{AdvancesBy, IsEnded, IsWaiting, StepIs, sends, waits_at}
 use Rattle.cd_core.specs.Returning.{CameBack, EachCameBack, MembersAnswerStill, MembersCanComeBack}
 use Rattle.cd_core.proofs.Apartness.{field_stays, pass_stays}

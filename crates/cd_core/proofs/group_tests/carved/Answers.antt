@@ -1,4 +1,4 @@
-use Rattle.std.proofs.Common.{rules, ◌≡◌}
+use Rattle.std.proofs.Common.{rules}
 use Rattle.cd_tree.specs.Scripts.{IsAccepted}
 use Rattle.cd_field.specs.FieldModel.{ArePresent}
 use Rattle.cd_core.proofs.GroupTurns.{root_part}
