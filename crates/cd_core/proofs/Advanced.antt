@@ -76,10 +76,10 @@ advanced plan domain old mid new step (Escalates cause over) listed t ends =
 -- ---- fitting
 
 -- the state when the tries of an advance are done
-abbrev after_tries : (plan : PlanModel) (old new : StateModel) (step : StepModel) → AdvancesBy plan old new step → StateModel
+abbrev pub after_tries : (plan : PlanModel) (old new : StateModel) (step : StepModel) → AdvancesBy plan old new step → StateModel
 after_tries plan old new step a = state_sending old a.keeps a.judged.begin a.judged.field a.pass
 
-tried_of : (plan : PlanModel) (old new : StateModel) (step : StepModel) (a : AdvancesBy plan old new step)
+pub tried_of : (plan : PlanModel) (old new : StateModel) (step : StepModel) (a : AdvancesBy plan old new step)
     → TriedFrom old.stage plan a.domain old (after_tries plan old new step a) a.judged.verdict
 tried_of plan old new step a = record { keeps = a.keeps; pass = a.pass; judged = a.judged; tried = a.tried; is = refl; state = refl }
 

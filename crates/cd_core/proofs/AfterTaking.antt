@@ -68,18 +68,19 @@ length-counts_taken commit (child ∷ children) s can =
 pub record StaysSo (m n : FieldModel) : Type 0 where
   pub script : n.script ≡ m.script
   pub node : n.node ≡ m.node
+  pub carved : n.carved ≡ m.carved
 
 one_stays : (commit : Bool) (m part : FieldModel) → StaysSo m (absorbed m part commit)
-one_stays true m part = record { script = refl; node = refl }
-one_stays false m part = record { script = refl; node = refl }
+one_stays true m part = record { script = refl; node = refl; carved = refl }
+one_stays false m part = record { script = refl; node = refl; carved = refl }
 
 pub all_stays : (commit : Bool) (children : List StateModel) (m : FieldModel) → StaysSo m (absorbed_all commit children m)
-all_stays commit [] m = record { script = refl; node = refl }
+all_stays commit [] m = record { script = refl; node = refl; carved = refl }
 all_stays commit (child ∷ children) m =
     let one : StaysSo m (absorbed m child.field commit) = one_stays commit m child.field in
     let rest : StaysSo (absorbed m child.field commit) (absorbed_all commit children (absorbed m child.field commit)) =
     all_stays commit children (absorbed m child.field commit) in
-    record { script = rest.script ∙ one.script; node = rest.node ∙ one.node }
+    record { script = rest.script ∙ one.script; node = rest.node ∙ one.node; carved = rest.carved ∙ one.carved }
 
 -- a choice with the same property on both sides
 chosen_has : {A : Type 0} (P : A → Type 0) (b : Bool) (one other : A) → (b ≡ true → P one) → (b ≡ false → P other) → P (if b then one else other)
@@ -151,13 +152,14 @@ pub record KeepsSo (p q : PassModel) (more : ℕ) : Type 0 where
   pub holds : q.holds ≡ p.holds
   pub held : q.held ≡ p.held
   pub most : q.most ≡ p.most
+  pub store : q.store ≡ p.store
   pub room : q.room ≡ p.room + more
 
 pub all_joined : (children : List StateModel) (p : PassModel) → KeepsSo p (joined_all children p) (rooms children)
-all_joined [] p = record { known = refl; holds = refl; held = refl; most = refl; room = omega arith }
+all_joined [] p = record { known = refl; holds = refl; held = refl; most = refl; store = refl; room = omega arith }
 all_joined (child ∷ children) p =
     let rest : KeepsSo (joined p child.pass) (joined_all children (joined p child.pass)) (rooms children) = all_joined children (joined p child.pass) in
-    record { known = rest.known; holds = rest.holds; held = rest.held; most = rest.most; room = omega (arith, rest.room) }
+    record { known = rest.known; holds = rest.holds; held = rest.held; most = rest.most; store = rest.store; room = omega (arith, rest.room) }
 
 -- ---- whom an escalation blames
 

@@ -1,12 +1,14 @@
 -- What the tries of a domain come to, whatever they tell: a group of the domain where they wait, no more to spare than there were,
 -- and a machine on which all entries are present.
 use Rattle.std.proofs.Common.{◌≡◌, ℕ, zero, suc, ◌+◌, ◌≤◌, Bool, true, false, ◌==◌, bit_and, List, [], ◌∷◌, Some, drop, length, slice_get, refl, ap, subst, sym, ◌∙◌, arith}
+use Rattle.cd_base.specs.declared.place.Place.{Place}
 use Rattle.cd_tree.specs.declared.domain.NodeId.{NodeId}
 use Rattle.cd_tree.specs.declared.domain.Item.{Item}
 use Rattle.cd_tree.specs.declared.domain.Item.TheVariants as item
 use Rattle.cd_tree.specs.declared.domain.Domain.{Domain}
 use Rattle.cd_tree.specs.declared.document.Fault.{Fault}
 use Rattle.cd_tree.specs.KindSets.{no_kinds, kinds_without}
+use Rattle.cd_tree.specs.Meaning.{in_entries}
 use Rattle.cd_field.specs.FieldModel.{FieldModel, begun, reached_point}
 use Rattle.cd_keep.specs.PassModel.{PassModel}
 use Rattle.cd_kernel.specs.Computing.{computed}
@@ -129,16 +131,30 @@ tries_end_in with (suc spare) begin t stops =
 
 -- ---- their machine
 
--- a machine after tries: whose it is, its script, and that all entries are present
-pub record Left (id : NodeId) (domain : Domain) (m n : FieldModel) : Type 0 where
+-- a machine after tries: whose it is, its script, what it was carved for, that its entries have words, and that all else is as it was
+pub record StillOf (id : NodeId) (domain : Domain) (m n : FieldModel) : Type 0 where
   pub node : n.node ≡ id
   pub script : n.script ≡ m.script
+  pub carved : n.carved ≡ m.carved
   pub words : HasWords domain.entries n
+  pub outside : (p : Place) → in_entries domain.entries p ≡ false → (n.words p ≡ m.words p) × (n.lost p ≡ m.lost p)
+
+-- and all entries are present
+pub record Left (id : NodeId) (domain : Domain) (m n : FieldModel) : Type 0 where
+  pub still : StillOf id domain m n
   pub present : ArePresentIn domain.entries n
 
 left_later : (id : NodeId) (domain : Domain) (m n o : FieldModel) → Stays id domain m n → Stays id domain n o → Left id domain m o
-left_later id domain m n o first later =
-    record { node = later.node; script = later.script ∙ first.script; words = later.words; present = later.present }
+left_later id domain m n o first later = record {
+  still = record {
+    node = later.node;
+    script = later.script ∙ first.script;
+    carved = later.carved ∙ first.carved;
+    words = later.words;
+    outside = λ p none. ((later.outside p none).0 ∙ (first.outside p none).0, (later.outside p none).1 ∙ (first.outside p none).1);
+  };
+  present = later.present;
+}
 
 -- from a point of a try on, and then the tries that follow
 pub points_left : PointsKeep → TriesKeep → (with : Means) (spare begin point : ℕ) (m : FieldModel) → CanRun with.node with.domain m

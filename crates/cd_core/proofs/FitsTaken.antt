@@ -36,16 +36,16 @@ use Rattle.cd_core.proofs.TakenBack.{ComesBack, Pairs, all_back, can_take_all, r
 use Rattle.cd_core.proofs.Views.{FitsView, fits_view}
 
 -- what a state that fits has as a state of this domain
-record FitsAs (plan : PlanModel) (s : StateModel) (d : Node) (domain : Domain) : Type 0 where
-  view : FitsView plan s domain
-  counts : length s.counts ≡ length (node_numbers d)
-  script : IsAccepted plan.tree s.field.script
-  most : node_need d ≤ s.pass.most
+pub record FitsAs (plan : PlanModel) (s : StateModel) (d : Node) (domain : Domain) : Type 0 where
+  pub view : FitsView plan s domain
+  pub counts : length s.counts ≡ length (node_numbers d)
+  pub script : IsAccepted plan.tree s.field.script
+  pub most : node_need d ≤ s.pass.most
 
 one_view : (one two : Node) → ◌≡◌ {A = Option Node} (Some one) (Some two) → one ≡ two
 one_view one two e = cc
 
-fits_as : NestedViewFollows → (plan : PlanModel) (s : StateModel) (domain : Domain) → IsPlan plan
+pub fits_as : NestedViewFollows → (plan : PlanModel) (s : StateModel) (domain : Domain) → IsPlan plan
     → slice_get plan.tree.domains s.node.0 ≡ Some domain → Fits plan s → FitsAs plan s (view_in plan.tree s.node domain) domain
 fits_as follows plan s domain is_plan listed f =
     let own : Node = node s.node f.domain f.body in
@@ -73,7 +73,7 @@ record Returns (plan : PlanModel) (s : StateModel) (d : Node) (members : Members
   room : s.pass.room + s.pass.held + rooms children ≡ node_need d
   numbers : (n : ℕ) → among (member_numbers members) n ≡ true → among (body_numbers (body_of d)) n ≡ true
 
-members_are : (domain : Domain) (point : ℕ) (ids : List NodeId) → slice_get domain.items point ≡ Some (Group ids) → members_at domain point ≡ ids
+pub members_are : (domain : Domain) (point : ℕ) (ids : List NodeId) → slice_get domain.items point ≡ Some (Group ids) → members_at domain point ≡ ids
 members_are domain point ids e = ap (λ (o : Option Item). option_map_or members_of_item o []) e
 
 returns : GroupLaws → (plan : PlanModel) (s : StateModel) (domain : Domain) (children : List StateModel) (spare point : ℕ) → IsPlan plan

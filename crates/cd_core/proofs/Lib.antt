@@ -24,14 +24,21 @@ mod Commons
 mod EndsStand
 mod Making
 mod Advanced
+mod Unmoved
+mod GoingOn
+mod Answering
 mod GroupsGiven
 mod TakenBack
 mod AfterTaking
+mod AfterResuming
 mod FitsTaken
 mod TakenOn
 mod TakesBack
+mod MembersBack
 mod FitsBefore
 mod Courses
+mod Ways
+mod TriesLeft
 mod FitsTries
 mod FitsEnds
 mod FitsStart
@@ -58,3 +65,4 @@ mod Sends
 mod Moving
 mod WorkedStates
 mod WorkedReturns
+mod WorkedBounds

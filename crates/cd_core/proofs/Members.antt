@@ -17,11 +17,13 @@ use Rattle.cd_tree.specs.Laws.{NestedViewFollows}
 use Rattle.cd_tree.specs.Meaning.{in_entries, node_reach, IsCovered, CoversBody, CoversMembers, GroupsApart, MembersApart, LieIn}
 use Rattle.cd_tree.specs.Slices.{node_size, slice_end, children_in, FillSlice}
 use Rattle.cd_tree.specs.TreeModel.{FitsItems, NamesChildren}
+use Rattle.cd_tree.proofs.View.{domain_fits}
 use Rattle.cd_foot.specs.Feet.{IsFoot}
 use Rattle.cd_cover.specs.OuterLaws.{IsChild}
 use Rattle.cd_cover.specs.Plans.{PlanModel, IsPlan}
 use Rattle.cd_core.specs.Advancing.{size_of}
 use Rattle.cd_core.specs.Asks.{foot_of}
+use Rattle.cd_core.specs.LawsBelow.{MoreLaws}
 use Rattle.cd_core.specs.StateModel.{StateModel}
 use Rattle.cd_core.specs.Trying.{IsBelow}
 use Rattle.cd_core.proofs.Grounds.{view_in}
@@ -107,6 +109,17 @@ are_members follows plan parent entries (id ∷ ids) is_plan named covers =
       },
       are_members follows plan parent entries ids is_plan named.2 parts.2,
     )
+
+-- the members of the group at a point of a listed domain
+pub group_members : MoreLaws → (plan : PlanModel) (id : NodeId) (domain : Domain) (point : ℕ) (ids : List NodeId) → IsPlan plan
+    → slice_get plan.tree.domains id.0 ≡ Some domain → slice_get domain.items point ≡ Some (Group ids) → Each (MemberOf plan id domain.entries) ids
+group_members l plan id domain point ids is_plan listed there =
+    let d : Node = view_in plan.tree id domain in
+    let is : node_of plan.tree.domains id ≡ Some d = l.follows plan.tree is_plan.program id domain listed in
+    let covers : IsCovered d = l.covered plan.tree is_plan.program is_plan.covered id d is in
+    are_members l.follows plan id domain.entries ids is_plan
+    (named_at plan.tree.domains id.0 domain.items point ids there (domain_fits plan.tree is_plan.program id domain listed).items)
+    (covered_at (in_entries domain.entries) (node_of plan.tree.domains) domain.items point ids there covers)
 
 -- ---- their slices
 

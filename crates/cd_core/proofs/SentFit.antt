@@ -17,7 +17,6 @@ use Rattle.cd_tree.specs.Meaning.{in_entries, node_need, node_reads, node_writes
 use Rattle.cd_tree.specs.Scripts.{IsAccepted}
 use Rattle.cd_tree.specs.Slices.{node_size}
 use Rattle.cd_tree.specs.SliceLaws.{ChildrenFillSlices}
-use Rattle.cd_tree.proofs.View.{domain_fits}
 use Rattle.cd_field.specs.FieldModel.{FieldModel, IsPresent, part_of, without}
 use Rattle.cd_keep.specs.PassModel.{PassModel}
 use Rattle.cd_keep.specs.PassModel as passes
@@ -36,7 +35,7 @@ use Rattle.cd_core.specs.Steps.{AllFit}
 use Rattle.cd_core.specs.Trying.{AreBelow, CanSendAll, FitsTried, IsBelow}
 use Rattle.cd_core.proofs.Facts.{reach_is}
 use Rattle.cd_core.proofs.Grounds.{view_in, body_in}
-use Rattle.cd_core.proofs.Members.{MemberOf, all_of, are_below, are_members, apart_at, covered_at, named_at}
+use Rattle.cd_core.proofs.Members.{MemberOf, all_of, are_below, apart_at, group_members}
 use Rattle.cd_core.proofs.Apartness.{IsHereAt, named_members, can_send_all, field_stays, pass_stays, room_left, stay_there, stays_here}
 use Rattle.cd_core.proofs.KeptRoom.{kept_within}
 use Rattle.cd_core.proofs.LinksBelow.{OuterLaws, member_links}
@@ -152,12 +151,8 @@ module _ (l : SendingLaws) (plan : PlanModel) (s : StateModel) (domain : Domain)
   group_sent : (f : FitsTried plan d domain s (Waits spare point)) → GroupSent plan s domain f.leaves.ids
   group_sent f =
       let ids : List NodeId = f.leaves.ids in
-      let covers : IsCovered d = l.more.covered plan.tree is_plan.program is_plan.covered s.node d f.is in
       let disjoint : IsDisjoint d = l.disjoint plan.tree is_plan.program is_plan.disjoint s.node d f.is in
-      let members : Each (MemberOf plan s.node domain.entries) ids =
-      are_members l.more.follows plan s.node domain.entries ids is_plan
-      (named_at plan.tree.domains s.node.0 domain.items point ids f.leaves.group (domain_fits plan.tree is_plan.program s.node domain listed).items)
-      (covered_at (in_entries domain.entries) (node_of plan.tree.domains) domain.items point ids f.leaves.group covers) in
+      let members : Each (MemberOf plan s.node domain.entries) ids = group_members l.more plan s.node domain point ids is_plan listed f.leaves.group in
       let own : sum_by entry_need domain.entries + sum_by (need_of plan.tree.domains) ids ≤ need_of plan.tree.domains s.node =
       l.needs plan.tree is_plan.program s.node domain listed point ids f.leaves.group in
       let need : need_of plan.tree.domains s.node ≡ node_need d = ap (λ (o : Option Node). option_map_or node_need o 0) f.is in

@@ -21,5 +21,7 @@ pub mod LawsBelow
 pub mod TakingBack
 -- what stays, how it goes on, and what members are when they come back
 pub mod Returning
+-- what an advance does not pass over
+pub mod Bounds
 -- what the test of states runs
 pub mod Sample

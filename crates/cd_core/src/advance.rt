@@ -2,7 +2,9 @@
 ghost use Rattle.std.specs.Prelude.{◌≡◌, Some, slice_get, IfOk, OnOk};
 ghost use Rattle.cd_tree.specs.Domains.{node, body_by, node_of};
 ghost use Rattle.cd_cover.specs.Plans.{IsPlan};
+ghost use Rattle.cd_core.specs.Bounds.{LapsesAnswered, StaysOutside};
 ghost use Rattle.cd_core.specs.Fits.{Fits};
+ghost use Rattle.cd_core.specs.Returning.{GoesOn, StaysBehind};
 ghost use Rattle.cd_core.specs.StateLaws.{Concludes};
 ghost use Rattle.cd_core.specs.StateModel.{state_model};
 ghost use Rattle.cd_core.specs.Stands.{Stands};
@@ -10,7 +12,10 @@ ghost use Rattle.cd_core.specs.Steps.{CanMove, step_model, Advances, AdvancesBy,
 ghost use Rattle.cd_core.specs.Tasks.{Task};
 ghost use Rattle.cd_core.specs.Trying.{FitsTried};
 
-use crate::advancing_laws::{advancing_fits, advancing_stands};
+use crate::advancing_laws::{
+    advancing_answers_lapses, advancing_fits, advancing_goes_on, advancing_stands, advancing_stays,
+    advancing_stays_inside,
+};
 use crate::laws_below::laws_below;
 use crate::sending::members_at;
 use crate::sending_laws::groups_can_be_sent;
@@ -36,9 +41,17 @@ impl<F: Field, P: Pass> NodeState<F, P> {
         ensures exact { Advances plan.now (state_model F.model P.model self.old) (state_model F.model P.model self.new) (step_model F.model P.model result) }
         ensures fits { FitsBehind plan.now (state_model F.model P.model self.new) (step_model F.model P.model result) }
         ensures stands { (t : Task) → Stands plan.now t (state_model F.model P.model self.old) → StandsBehind plan.now t (state_model F.model P.model self.new) (step_model F.model P.model result) }
+        ensures stays { StaysBehind (state_model F.model P.model self.old) (state_model F.model P.model self.new) (step_model F.model P.model result) }
+        ensures onward { GoesOn plan.now (state_model F.model P.model self.old) (state_model F.model P.model self.new) (step_model F.model P.model result) }
+        ensures outside { StaysOutside plan.now (state_model F.model P.model self.old) (state_model F.model P.model self.new) (step_model F.model P.model result) }
+        ensures lapses { LapsesAnswered plan.now (state_model F.model P.model self.old) (state_model F.model P.model self.new) (step_model F.model P.model result) }
     {
         advancing_fits();
         advancing_stands();
+        advancing_stays();
+        advancing_goes_on();
+        advancing_stays_inside();
+        advancing_answers_lapses();
         match self.move_on(rt, alloc, plan) {
             Ok(step) => step,
             Err(NoMemory) => Step::NoMemory,

@@ -1,4 +1,6 @@
-//! Laws of an advance as a whole: a domain that moved fits, and stands where its reading has come to.
+//! Laws of an advance as a whole: a domain that moved fits, stands where its reading has come to, and goes on; what stays of it.
+ghost use Rattle.cd_core.specs.Bounds.{AdvancingAnswersLapses, AdvancingStaysInside};
+ghost use Rattle.cd_core.specs.Returning.{AdvancingGoesOn, AdvancingStays};
 ghost use Rattle.cd_core.specs.StateLaws.{AdvancingFits, AdvancingStands, TriesComeToGroups, TriesComeToEnds};
 
 use crate::asking_laws::sending_stands;
@@ -35,3 +37,31 @@ pub fn advancing_stands()
     advancing_fits();
     sending_stands();
 }
+
+/// A domain that moved is the same domain, of the same script and store.
+pub fn advancing_stays()
+    ensures { AdvancingStays }
+{
+    laws_below();
+    tries_fit();
+}
+
+/// It has ended, or waits with fewer points left.
+pub fn advancing_goes_on()
+    ensures { AdvancingGoesOn }
+{
+    laws_below();
+}
+
+/// Outside of what it reaches its machine is as it was.
+pub fn advancing_stays_inside()
+    ensures { AdvancingStaysInside }
+{
+    laws_below();
+    tries_fit();
+}
+
+/// Each lapse that it told has a gone answer of its own.
+pub fn advancing_answers_lapses()
+    ensures { AdvancingAnswersLapses }
+{}

@@ -1,4 +1,5 @@
-//! Laws of members that come back: the domain that waited for them stands after its group.
+//! Laws of members that come back: they can be taken, and the domain that waited for them stands after its group.
+ghost use Rattle.cd_core.specs.Returning.{MembersAnswerStill, MembersCanComeBack};
 ghost use Rattle.cd_core.specs.StateLaws.{ResumingStands};
 
 use crate::laws_below::laws_below;
@@ -25,4 +26,12 @@ pub fn resuming_stands()
     plan_laws::outer_references_of_members();
     plan_laws::members_find_what_their_links_keep();
     plan_laws::subtrees_are_seen_on_paths();
+}
+
+/// The members that a domain sent, each run to its end, can be taken by it, and answer what was asked of them as they were sent.
+pub fn members_come_back()
+    ensures takes { MembersCanComeBack }
+    ensures answers { MembersAnswerStill }
+{
+    tree_laws::the_nested_view_follows_the_list();
 }

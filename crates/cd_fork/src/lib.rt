@@ -2,5 +2,10 @@
 #![tactic(auto)]
 
 mod run;
+mod siblings;
+mod turns;
 
 pub use run::run_root;
+
+#[cfg(test)]
+mod tests;

@@ -17,3 +17,31 @@ returns-in-Ok-clause-stands g c t stands =
     (exactly c.args.plan.now (state_model g.F.Field.model g.P.Pass.model c.args.self.now) (state_model g.F.Field.model g.P.Pass.model c.move_on.new.self)
     (step_model g.F.Field.model g.P.Pass.model c.in-Ok.step) c.in-Ok.ensures.exact)
     stands
+
+pub returns-in-Ok-clause-stays : goal.returns-in-Ok-clause-stays
+returns-in-Ok-clause-stays g c =
+    c.advancing_stays.ensures c.args.plan.now (state_model g.F.Field.model g.P.Pass.model c.args.self.now) (state_model g.F.Field.model g.P.Pass.model c.move_on.new.self)
+    (step_model g.F.Field.model g.P.Pass.model c.in-Ok.step) c.in-Ok.ensures.plan c.requires.fits
+    (exactly c.args.plan.now (state_model g.F.Field.model g.P.Pass.model c.args.self.now) (state_model g.F.Field.model g.P.Pass.model c.move_on.new.self)
+    (step_model g.F.Field.model g.P.Pass.model c.in-Ok.step) c.in-Ok.ensures.exact)
+
+pub returns-in-Ok-clause-onward : goal.returns-in-Ok-clause-onward
+returns-in-Ok-clause-onward g c =
+    c.advancing_goes_on.ensures c.args.plan.now (state_model g.F.Field.model g.P.Pass.model c.args.self.now) (state_model g.F.Field.model g.P.Pass.model c.move_on.new.self)
+    (step_model g.F.Field.model g.P.Pass.model c.in-Ok.step) c.in-Ok.ensures.plan c.requires.fits
+    (exactly c.args.plan.now (state_model g.F.Field.model g.P.Pass.model c.args.self.now) (state_model g.F.Field.model g.P.Pass.model c.move_on.new.self)
+    (step_model g.F.Field.model g.P.Pass.model c.in-Ok.step) c.in-Ok.ensures.exact)
+
+pub returns-in-Ok-clause-outside : goal.returns-in-Ok-clause-outside
+returns-in-Ok-clause-outside g c =
+    c.advancing_stays_inside.ensures c.args.plan.now (state_model g.F.Field.model g.P.Pass.model c.args.self.now) (state_model g.F.Field.model g.P.Pass.model c.move_on.new.self)
+    (step_model g.F.Field.model g.P.Pass.model c.in-Ok.step) c.in-Ok.ensures.plan c.requires.fits
+    (exactly c.args.plan.now (state_model g.F.Field.model g.P.Pass.model c.args.self.now) (state_model g.F.Field.model g.P.Pass.model c.move_on.new.self)
+    (step_model g.F.Field.model g.P.Pass.model c.in-Ok.step) c.in-Ok.ensures.exact)
+
+pub returns-in-Ok-clause-lapses : goal.returns-in-Ok-clause-lapses
+returns-in-Ok-clause-lapses g c =
+    c.advancing_answers_lapses.ensures c.args.plan.now (state_model g.F.Field.model g.P.Pass.model c.args.self.now) (state_model g.F.Field.model g.P.Pass.model c.move_on.new.self)
+    (step_model g.F.Field.model g.P.Pass.model c.in-Ok.step) c.in-Ok.ensures.plan c.requires.fits
+    (exactly c.args.plan.now (state_model g.F.Field.model g.P.Pass.model c.args.self.now) (state_model g.F.Field.model g.P.Pass.model c.move_on.new.self)
+    (step_model g.F.Field.model g.P.Pass.model c.in-Ok.step) c.in-Ok.ensures.exact)

@@ -4,6 +4,7 @@ use Rattle.cd_tree.specs.TreeModel.{TreeModel}
 use Rattle.cd_tree.specs.declared.domain.Domain.{Domain}
 use Rattle.cd_core.specs.Resuming.{resumed}
 use Rattle.cd_core.specs.StateModel.{state_model}
+use Rattle.cd_core.proofs.AfterResuming.{left_behind}
 use Rattle.cd_core.proofs.TakesBack.{can_take, fits_after, stands_after}
 use Rattle.cd_core.proofs.state.NodeState.resume.Goals as goal
 
@@ -36,3 +37,21 @@ returns-clause-stands g c t stands answers =
     (state_model g.F.Field.model g.P.Pass.model c.take_group.new.self) (map (state_model g.F.Field.model g.P.Pass.model) c.args.children.items) c.node.result.now
     c.tree.ensures.sound stands (subst T c.tree.ensures.value c.node.ensures) c.requires.waits c.requires.members c.requires.takes answers
     c.in_ok-take_group.ensures
+
+pub returns-clause-stays : goal.returns-clause-stays
+returns-clause-stays g c =
+    (left_behind c.args.plan.now (state_model g.F.Field.model g.P.Pass.model c.args.self.now)
+    (state_model g.F.Field.model g.P.Pass.model c.take_group.new.self) c.node.result.now (map (state_model g.F.Field.model g.P.Pass.model) c.args.children.items)
+    c.requires.waits c.in_ok-take_group.ensures).stays
+
+pub returns-clause-onward : goal.returns-clause-onward
+returns-clause-onward g c =
+    (left_behind c.args.plan.now (state_model g.F.Field.model g.P.Pass.model c.args.self.now)
+    (state_model g.F.Field.model g.P.Pass.model c.take_group.new.self) c.node.result.now (map (state_model g.F.Field.model g.P.Pass.model) c.args.children.items)
+    c.requires.waits c.in_ok-take_group.ensures).onward
+
+pub returns-clause-moves : goal.returns-clause-moves
+returns-clause-moves g c =
+    (left_behind c.args.plan.now (state_model g.F.Field.model g.P.Pass.model c.args.self.now)
+    (state_model g.F.Field.model g.P.Pass.model c.take_group.new.self) c.node.result.now (map (state_model g.F.Field.model g.P.Pass.model) c.args.children.items)
+    c.requires.waits c.in_ok-take_group.ensures).moves

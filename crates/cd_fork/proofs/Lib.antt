@@ -1,0 +1,4 @@
+mod Below
+mod Turning
+mod Lists
+mod Outcomes
