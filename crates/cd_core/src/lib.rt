@@ -9,7 +9,9 @@
 //! ```
 //!
 //! Each call says exactly what it does (`exact`), that the state still fits (`fits`), and that a domain which stood where its
-//! reading had come to stands so again (`stands`). The functions of the modules of laws say why, with no code in them.
+//! reading had come to stands so again (`stands`). `advance` and `resume` also say what stays of a state (`stays`) and that it
+//! goes on (`onward`), and `advance` that it keeps to the domain's reach (`outside`) and that each lapse which it tells was
+//! answered (`lapses`). The functions of the modules of laws say why, with no code in them.
 #![tactic(auto)]
 
 mod advance;
