@@ -5,7 +5,7 @@ use Rattle.std.proofs.lemmas.Result.{IfOk-at_ok}
 use Rattle.cd_tree.specs.declared.domain.NodeId.{NodeId}
 use Rattle.cd_core.specs.StateModel.{StateModel, state_model}
 use Rattle.cd_core.specs.Returning.{EachCameBack}
-use Rattle.cd_fork.specs.Onward.{CanRun, EachCanRun, OnItsWay, most_below, room_below, weight_of_all}
+use Rattle.cd_fork.specs.Onward.{CanRun, EachCanRun, OnItsWay, most_from, domains_from, weight_of_all}
 use Rattle.cd_fork.proofs.Below.{AreBelow, are_below}
 use Rattle.cd_fork.proofs.Turning.{way_begins, turned_on, turned_over, members_taken, taken_on, came_back}
 use Rattle.cd_fork.proofs.Lists.{Halves, in_halves, halves_back, LeftOf, left_first, left_next, left_more, left_none}
@@ -118,7 +118,7 @@ siblings::run_in_turn-run_domain-requires g t c κs =
     let next = left_next c.args.plan.now (map seen c.args.states.items) (map seen (into_iter_items c.loop-state.state-iterator))
     (map seen c.loop-state.done.items) (map seen (into_iter_items c.next.new.self)) (seen c.in-Some.state) (ap (map seen) items) c.loop-state.invariant in
     let can : CanRun c.args.plan.now (seen c.in-Some.state) = next.0 in
-    let deep : room_below c.args.plan.now (seen c.in-Some.state) ≤ most_below c.args.plan.now (map seen c.args.states.items) = next.1 in
+    let deep : domains_from c.args.plan.now (seen c.in-Some.state) ≤ most_from c.args.plan.now (map seen c.args.states.items) = next.1 in
     search (rules, can, deep)
 
 pub siblings::run_in_turn-loop-state-preserved : goal.siblings::run_in_turn-loop-state-preserved
