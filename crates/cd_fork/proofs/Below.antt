@@ -20,7 +20,7 @@ use Rattle.cd_core.specs.Advancing.{all_sent, members_at, members_of_item, state
 use Rattle.cd_core.specs.Asks.{foot_of}
 use Rattle.cd_core.specs.StateModel.{StateModel}
 use Rattle.cd_core.specs.Steps.{Advances, AllFit, StepIs, sends}
-use Rattle.cd_fork.specs.Onward.{EachCanRun, most_below, weight_of_all}
+use Rattle.cd_fork.specs.Onward.{EachCanRun, most_from, weight_of_all}
 
 -- the members of the group at an item are later domains, and not too many
 named_at : (domains : List Domain) (at : ℕ) (items : List Item) (k : ℕ) → FitsItems domains at items
@@ -35,10 +35,10 @@ named_at domains at (Group ids ∷ items) (suc k) (some, few, named, fits) = nam
 -- what is sent to later domains lies below
 sent_below : (plan : PlanModel) (s : StateModel) (at : ℕ) (ids : List NodeId) (m : FieldModel) (p : PassModel)
     → at < length plan.tree.domains → NamesChildren plan.tree.domains at ids
-    → most_below plan (all_sent plan s ids m p) < length plan.tree.domains - at
+    → most_from plan (all_sent plan s ids m p) < length plan.tree.domains - at
 sent_below plan s at [] m p within named = omega arith
 sent_below plan s at (id ∷ ids) m p within (later, child, named) =
-    let rest : most_below plan (all_sent plan s ids (without m (foot_of plan id).writes) (passes.without p (need_of plan.tree.domains id)))
+    let rest : most_from plan (all_sent plan s ids (without m (foot_of plan id).writes) (passes.without p (need_of plan.tree.domains id)))
     < length plan.tree.domains - at =
     sent_below plan s at ids (without m (foot_of plan id).writes) (passes.without p (need_of plan.tree.domains id)) within named in
     omega (arith, rest, later, within)
@@ -72,7 +72,7 @@ by_verdict plan domain s (Waits spare point) sent is_plan listed is fit =
     let many : length (all_sent plan s (members_at domain point) s.field s.pass) ≡ length (members_at domain point) =
     sent_length plan s (members_at domain point) s.field s.pass in
     let few : length (members_at domain point) ≤ members_limit = named.1 in
-    let deep : most_below plan (all_sent plan s (members_at domain point) s.field s.pass) < length plan.tree.domains - s.node.0 =
+    let deep : most_from plan (all_sent plan s (members_at domain point) s.field s.pass) < length plan.tree.domains - s.node.0 =
     sent_below plan s s.node.0 (members_at domain point) s.field s.pass within named.0 in
     let A : List StateModel → Type 0 = λ xs. AllFit plan xs in
     let B : List StateModel → Type 0 = λ xs. AreBelow plan s.node.0 xs in

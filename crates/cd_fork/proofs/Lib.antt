@@ -2,3 +2,4 @@ mod Below
 mod Turning
 mod Lists
 mod Outcomes
+mod RootMachine

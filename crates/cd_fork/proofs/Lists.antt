@@ -4,7 +4,7 @@ use Rattle.std.proofs.lemmas.List.{append-nil, length-append, length-map, map-ap
 use Rattle.cd_cover.specs.Plans.{PlanModel}
 use Rattle.cd_core.specs.Returning.{CameBack, EachCameBack}
 use Rattle.cd_core.specs.StateModel.{StateModel}
-use Rattle.cd_fork.specs.Onward.{CanRun, EachCanRun, most_below, room_below, weight_of_all}
+use Rattle.cd_fork.specs.Onward.{CanRun, EachCanRun, most_from, domains_from, weight_of_all}
 
 -- ---- halves
 
@@ -16,9 +16,9 @@ each_last : (plan : PlanModel) (xs ys : List StateModel) → EachCanRun plan (xs
 each_last plan [] ys each = each
 each_last plan (x ∷ xs) ys each = each_last plan xs ys each.1
 
-most_both : (plan : PlanModel) (xs ys : List StateModel) → most_below plan (xs ++ ys) ≡ max (most_below plan xs) (most_below plan ys)
+most_both : (plan : PlanModel) (xs ys : List StateModel) → most_from plan (xs ++ ys) ≡ max (most_from plan xs) (most_from plan ys)
 most_both plan [] ys = omega arith
-most_both plan (x ∷ xs) ys = let rest : most_below plan (xs ++ ys) ≡ max (most_below plan xs) (most_below plan ys) = most_both plan xs ys in omega (arith, rest)
+most_both plan (x ∷ xs) ys = let rest : most_from plan (xs ++ ys) ≡ max (most_from plan xs) (most_from plan ys) = most_both plan xs ys in omega (arith, rest)
 
 both_back : (plan : PlanModel) (xs ys first second : List StateModel) → EachCameBack plan xs first → EachCameBack plan ys second
     → EachCameBack plan (xs ++ ys) (first ++ second)
@@ -43,7 +43,7 @@ halves_of : (plan : PlanModel) (all low high : List StateModel) → all ≡ low 
     → Halves plan all low high
 halves_of plan all low high is some more each =
     let both : EachCanRun plan (low ++ high) = subst (EachCanRun plan) is each in
-    let most : most_below plan all ≡ max (most_below plan low) (most_below plan high) = ap (most_below plan) is ∙ most_both plan low high in
+    let most : most_from plan all ≡ max (most_from plan low) (most_from plan high) = ap (most_from plan) is ∙ most_both plan low high in
     let many : length all ≡ length low + length high = ap (λ (xs : List StateModel). length xs) is ∙ length-append low high in
     record {
       low_can = each_first plan low high both;
@@ -74,7 +74,7 @@ halves_back {A} f plan n xs low high first second all front back grown a b =
 pub record LeftOf (plan : PlanModel) (all left done : List StateModel) : Type 0 where
   pub back : (more : List StateModel) → EachCameBack plan left more → EachCameBack plan all (done ++ more)
   pub can : EachCanRun plan left
-  pub deep : most_below plan left ≤ most_below plan all
+  pub deep : most_from plan left ≤ most_from plan all
 
 pub left_first : (plan : PlanModel) (all left done : List StateModel) → left ≡ all → done ≡ [] → EachCanRun plan all → LeftOf plan all left done
 left_first plan all left done same none can =
@@ -83,19 +83,19 @@ left_first plan all left done same none can =
     subst L (sym same) (subst D (sym none) (record { back = λ more came. came; can = can; deep = omega arith }))
 
 pub left_next : (plan : PlanModel) (all left done rest : List StateModel) (s : StateModel) → left ≡ s ∷ rest → LeftOf plan all left done
-    → CanRun plan s × (room_below plan s ≤ most_below plan all)
+    → CanRun plan s × (domains_from plan s ≤ most_from plan all)
 left_next plan all left done rest s is l =
     let can : EachCanRun plan (s ∷ rest) = subst (EachCanRun plan) is l.can in
-    let most : most_below plan left ≡ max (room_below plan s) (most_below plan rest) = ap (most_below plan) is in
-    let deep : most_below plan left ≤ most_below plan all = l.deep in
+    let most : most_from plan left ≡ max (domains_from plan s) (most_from plan rest) = ap (most_from plan) is in
+    let deep : most_from plan left ≤ most_from plan all = l.deep in
     (can.0, omega (arith, most, deep))
 
 pub left_more : (plan : PlanModel) (all left done rest grown : List StateModel) (s back : StateModel) → left ≡ s ∷ rest → grown ≡ done ++ back ∷ []
     → CameBack plan s back → LeftOf plan all left done → LeftOf plan all rest grown
 left_more plan all left done rest grown s back is more came l =
     let can : EachCanRun plan (s ∷ rest) = subst (EachCanRun plan) is l.can in
-    let most : most_below plan left ≡ max (room_below plan s) (most_below plan rest) = ap (most_below plan) is in
-    let deep : most_below plan left ≤ most_below plan all = l.deep in
+    let most : most_from plan left ≡ max (domains_from plan s) (most_from plan rest) = ap (most_from plan) is in
+    let deep : most_from plan left ≤ most_from plan all = l.deep in
     let Back : List StateModel → Type 0 = λ xs. (ends : List StateModel) → EachCameBack plan xs ends → EachCameBack plan all (done ++ ends) in
     let Whole : List StateModel → Type 0 = λ xs. EachCameBack plan all xs in
     let Grown : List StateModel → Type 0 = λ xs. LeftOf plan all rest xs in

@@ -1,4 +1,4 @@
--- How a domain is taken to its end, and its members with it: what lasts from turn to turn, and how deep what is still to be run lies.
+-- How a domain is taken to its end, and its members with it: what lasts from turn to turn, and how much is still to be run.
 use Rattle.std.specs.Prelude.{ℕ, ◌+◌, ◌-◌, ◌*◌, ◌<◌, max, Bool, true, false, List, [], ◌∷◌, length}
 use Rattle.cd_cover.specs.Plans.{PlanModel}
 use Rattle.cd_core.specs.StateModel.{StateModel}
@@ -34,17 +34,17 @@ Turned plan old new false = OnItsWay plan old new × (left_in plan new < left_in
 
 -- ---- how much is still to be run
 
--- no more domains lie one below another, from this one on, than follow it in the program
-abbrev pub room_below : PlanModel → StateModel → ℕ
-room_below plan s = length plan.tree.domains - s.node.0
+-- how many domains of the program there are from this one on: fewer from each that lies below it
+abbrev pub domains_from : PlanModel → StateModel → ℕ
+domains_from plan s = length plan.tree.domains - s.node.0
 
-abbrev pub most_below : PlanModel → List StateModel → ℕ
-most_below plan [] = 0
-most_below plan (s ∷ states) = max (room_below plan s) (most_below plan states)
+abbrev pub most_from : PlanModel → List StateModel → ℕ
+most_from plan [] = 0
+most_from plan (s ∷ states) = max (domains_from plan s) (most_from plan states)
 
 -- a number that is less of a group's members than of their domain, and less of a part of them
 abbrev pub weight_of : PlanModel → StateModel → ℕ
-weight_of plan s = room_below plan s * 1024
+weight_of plan s = domains_from plan s * 1024
 
 abbrev pub weight_of_all : PlanModel → List StateModel → ℕ
-weight_of_all plan states = most_below plan states * 1024 + 2 * length states
+weight_of_all plan states = most_from plan states * 1024 + 2 * length states

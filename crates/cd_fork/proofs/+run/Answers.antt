@@ -1,11 +1,11 @@
-use Rattle.std.proofs.Common.{rules, true, false, ℕ, ◌≡◌, ◌∙◌, [], ◌+◌, ◌-◌, ◌*◌, ◌<◌, ◌≤◌, ◌∷◌, List, map, length, ap}
+use Rattle.std.proofs.Common.{rules, true, false, ℕ, ◌≡◌, ◌∙◌, [], ◌+◌, ◌-◌, ◌*◌, ◌/◌, ◌<◌, ◌≤◌, ◌∷◌, List, map, length, ap}
 use Rattle.std.specs.Vec.Iter.{into_iter_items}
 use Rattle.std.proofs.lemmas.List.{map_push}
 use Rattle.std.proofs.lemmas.Result.{IfOk-at_ok}
 use Rattle.cd_tree.specs.declared.domain.NodeId.{NodeId}
 use Rattle.cd_core.specs.StateModel.{StateModel, state_model}
 use Rattle.cd_core.specs.Returning.{EachCameBack}
-use Rattle.cd_fork.specs.Onward.{CanRun, EachCanRun, OnItsWay, most_below, room_below, weight_of_all}
+use Rattle.cd_fork.specs.Onward.{CanRun, EachCanRun, OnItsWay, most_from, domains_from, weight_of_all}
 use Rattle.cd_fork.proofs.Below.{AreBelow, are_below}
 use Rattle.cd_fork.proofs.Turning.{way_begins, turned_on, turned_over, members_taken, taken_on, came_back}
 use Rattle.cd_fork.proofs.Lists.{Halves, in_halves, halves_back, LeftOf, left_first, left_next, left_more, left_none}
@@ -88,7 +88,7 @@ siblings::run_members-join-first-requires-after_bounds g t c κs within =
     let some : 0 < length c.split_off.new.self.items = search rules in
     let more : 0 < length c.in_ok-high.high.items = search rules in
     let halves : Halves c.args.plan.now (map seen xs) (map seen c.split_off.new.self.items) (map seen c.in_ok-high.high.items) =
-    in_halves seen c.args.plan.now _ xs c.split_off.new.self.items c.in_ok-high.high.items cut.items cut.tail some more c.requires in
+    in_halves seen c.args.plan.now (c.len-2.result / 2) xs c.split_off.new.self.items c.in_ok-high.high.items cut.items cut.tail some more c.requires in
     let low_can = halves.low_can in let high_can = halves.high_can in
     let low_light = halves.low_light in let high_light = halves.high_light in
     (search (rules, low_can, low_light), search (rules, high_can, high_light))
@@ -100,7 +100,7 @@ siblings::run_members-returns g t c =
     let cut = c.in_ok-high.ensures in
     let low = c.split_off.new.self.items in
     let high = c.in_ok-high.high.items in
-    halves_back seen plan _ c.args.low.items low high c.in_ok-all.all.items c.in_ok-more.more.items c.append.new.self.items
+    halves_back seen plan (c.len-2.result / 2) c.args.low.items low high c.in_ok-all.all.items c.in_ok-more.more.items c.append.new.self.items
     cut.items cut.tail c.in_ok-append.ensures.items
     (IfOk-at_ok (λ v. EachCameBack plan (map seen low) (map seen v.items)) c.in_ok-all.was c.join-first.ensures.first)
     (IfOk-at_ok (λ v. EachCameBack plan (map seen high) (map seen v.items)) c.in_ok-more.was c.join-first.ensures.second)
@@ -118,7 +118,7 @@ siblings::run_in_turn-run_domain-requires g t c κs =
     let next = left_next c.args.plan.now (map seen c.args.states.items) (map seen (into_iter_items c.loop-state.state-iterator))
     (map seen c.loop-state.done.items) (map seen (into_iter_items c.next.new.self)) (seen c.in-Some.state) (ap (map seen) items) c.loop-state.invariant in
     let can : CanRun c.args.plan.now (seen c.in-Some.state) = next.0 in
-    let deep : room_below c.args.plan.now (seen c.in-Some.state) ≤ most_below c.args.plan.now (map seen c.args.states.items) = next.1 in
+    let deep : domains_from c.args.plan.now (seen c.in-Some.state) ≤ most_from c.args.plan.now (map seen c.args.states.items) = next.1 in
     search (rules, can, deep)
 
 pub siblings::run_in_turn-loop-state-preserved : goal.siblings::run_in_turn-loop-state-preserved

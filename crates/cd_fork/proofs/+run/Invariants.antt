@@ -2,7 +2,7 @@ use Rattle.std.proofs.Common.{ℕ, ◌+◌, ◌*◌, map}
 use Rattle.std.specs.Vec.Iter.{into_iter_items}
 use Rattle.cd_core.specs.StateModel.{state_model}
 use Rattle.cd_core.specs.Returning.{left_in}
-use Rattle.cd_fork.specs.Onward.{OnItsWay, most_below, weight_of, weight_of_all}
+use Rattle.cd_fork.specs.Onward.{OnItsWay, most_from, weight_of, weight_of_all}
 use Rattle.cd_fork.proofs.Lists.{LeftOf}
 use Rattle.cd_fork.proofs.+run.Given as goal
 
@@ -18,7 +18,7 @@ abbrev pub decreases-siblings::run_members-back : goal.decreases-siblings::run_m
 decreases-siblings::run_members-back g l = weight_of_all l.plan.now (map (state_model g.F.Field.model g.P.Pass.model) l.high.items) + 4
 
 abbrev pub decreases-siblings::run_in_turn : goal.decreases-siblings::run_in_turn
-decreases-siblings::run_in_turn g l = most_below l.plan.now (map (state_model g.F.Field.model g.P.Pass.model) l.states.items) * 1024 + 2
+decreases-siblings::run_in_turn g l = most_from l.plan.now (map (state_model g.F.Field.model g.P.Pass.model) l.states.items) * 1024 + 2
 
 -- those that are left give what all of them give
 abbrev pub invariant-siblings::run_in_turn-loop-state : goal.invariant-siblings::run_in_turn-loop-state
