@@ -1,6 +1,8 @@
 /* Loaded before the C library, refuses one call of malloc, realloc or calloc: the one whose number, from 1, stands in the
    environment under REFUSED_CALL. Where it is 0, none is refused, and each call is told by one byte on standard error.
-   Calls are counted from when the program is loaded and set up. */
+   Calls are counted from when the program is loaded and set up. A refused call says so in errno, as the C library's own do: that library
+   asks for it where a thread is started. */
+#include <errno.h>
 #include <stdatomic.h>
 #include <stddef.h>
 #include <stdlib.h>
@@ -28,7 +30,11 @@ static int is_refused(void) {
     if (refused == 0) {
         return write(STDERR_FILENO, ".", 1) < 0;
     }
-    return atomic_fetch_add(&calls, 1) + 1 == refused;
+    if (atomic_fetch_add(&calls, 1) + 1 != refused) {
+        return 0;
+    }
+    errno = ENOMEM;
+    return 1;
 }
 
 void *malloc(size_t size) {
