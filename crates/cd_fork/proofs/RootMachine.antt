@@ -1,5 +1,5 @@
 -- What the test of groups has of its root: its footprint, a machine that is carved for it, and an outcome that can be read.
-use Rattle.std.proofs.Common.{◌≡◌, ℕ, Bool, true, false, not, ◌&&◌, ◌||◌, if◌then◌else◌, IsSome, List, [], Option, None, Some, IsSomeAnd, is_none, length, map, slice_get, refl, ap, sym, subst, ◌∙◌}
+use Rattle.std.proofs.Common.{◌≡◌, ℕ, Bool, true, false, not, ◌&&◌, ◌||◌, if◌then◌else◌, IsSome, List, [], Option, None, Some, IsSomeAnd, is_some, length, map, slice_get, refl, ap, sym, subst, ◌∙◌}
 use Rattle.std.proofs.lemmas.Bool.{or_left}
 use Rattle.std.proofs.lemmas.List.{length-map}
 use Rattle.cd_base.specs.declared.place.Place.{Place}
@@ -78,7 +78,7 @@ or_none false b none h = absurd (cc)
 pub lies : (plan : PlanModel) (words reach before : List Range) (least : Option Place) → (p : Place) → before ≡ []
     → ((q : Place) → in_ranges words q ≡ (in_range sample q || in_ranges before q))
     → ((q : Place) → in_ranges reach q ≡ node_reach (root_of plan.tree.domains) q)
-    → IsLeast (in_second_alone words reach) least → is_none least ≡ true
+    → IsLeast (in_second_alone words reach) least → is_some least ≡ false
     → node_reach (root_of plan.tree.domains) p ≡ true → in_range sample p ≡ true
 lies plan words reach before (Some first) p empty has are least none h = absurd (cc)
 lies plan words reach before None p empty has are least none h =

@@ -1,14 +1,14 @@
-use Rattle.std.proofs.Common.{rules, true, false, ℕ, ◌≡◌, ◌∙◌, [], ◌+◌, ◌-◌, ◌*◌, ◌/◌, ◌<◌, ◌≤◌, ◌∷◌, List, map, length, ap}
+use Rattle.std.proofs.Common.{rules, true, false, ◌≡◌, ◌∙◌, ◌+◌, ◌-◌, ◌*◌, ◌/◌, ◌<◌, ◌≤◌, ◌∷◌, List, map, length, ap}
 use Rattle.std.specs.Vec.Iter.{into_iter_items}
 use Rattle.std.proofs.lemmas.List.{map_push}
 use Rattle.std.proofs.lemmas.Result.{IfOk-at_ok}
 use Rattle.cd_tree.specs.declared.domain.NodeId.{NodeId}
 use Rattle.cd_core.specs.StateModel.{StateModel, state_model}
 use Rattle.cd_core.specs.Returning.{EachCameBack}
-use Rattle.cd_fork.specs.Onward.{CanRun, EachCanRun, OnItsWay, most_from, domains_from, weight_of_all}
+use Rattle.cd_fork.specs.Onward.{CanRun, EachCanRun, most_from, domains_from, weight_of_all}
 use Rattle.cd_fork.proofs.Below.{AreBelow, are_below}
 use Rattle.cd_fork.proofs.Turning.{way_begins, turned_on, turned_over, members_taken, taken_on, came_back}
-use Rattle.cd_fork.proofs.Lists.{Halves, in_halves, halves_back, LeftOf, left_first, left_next, left_more, left_none}
+use Rattle.cd_fork.proofs.Lists.{Halves, in_halves, halves_back, left_first, left_next, left_more, left_none}
 use Rattle.cd_fork.proofs.+run.Goals as goal
 
 -- ---- one domain

@@ -1,4 +1,4 @@
-use Rattle.std.proofs.Common.{ℕ, ◌+◌, ◌*◌, map}
+use Rattle.std.proofs.Common.{◌+◌, ◌*◌, map}
 use Rattle.std.specs.Vec.Iter.{into_iter_items}
 use Rattle.cd_core.specs.StateModel.{state_model}
 use Rattle.cd_core.specs.Returning.{left_in}

@@ -1,4 +1,4 @@
-use Rattle.std.proofs.Common.{rules, ◌≡◌, true, ◌∙◌, sym, ap}
+use Rattle.std.proofs.Common.{◌∙◌, sym}
 use Rattle.std.proofs.lemmas.Bool.{or_left, or_right}
 use Rattle.cd_tree.specs.Domains.{root_of}
 use Rattle.cd_tree.specs.Meaning.{node_reads, node_writes}
