@@ -1,0 +1,5 @@
+-- The files of definitions, in the order in which to read them.
+pub mod Control
+pub mod Views
+pub mod Rule
+pub mod Steps
