@@ -20,6 +20,10 @@ none_from (Some x) h = absurd (h x refl)
 pub not_some : {A : Type 0} (x : A) → ◌≡◌ {A = Option A} None (Some x) → ⊥
 not_some x e = cc
 
+pub some_of : {A : Type 0} (o : Option A) → IsSome o → (x : A) × (o ≡ Some x)
+some_of None h = absurd (cc)
+some_of (Some x) h = (x, refl)
+
 -- ---- ids
 
 pub same_self : (p : KeepId) → same_id p p ≡ true

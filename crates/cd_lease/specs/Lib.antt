@@ -2,4 +2,5 @@
 pub mod Control
 pub mod Views
 pub mod Rule
+pub mod Seats
 pub mod Steps

@@ -1,13 +1,9 @@
-// A library with one function.
+//! Preserved words in one table of blocks that all passes share, over all interleavings of single steps.
 #![tactic(auto)]
 
-ghost use Rattle.std.specs.Prelude.{◌≡◌};
-ghost use Rattle.cd_lease.specs.Echo.{echo_of};
+mod rule;
+mod steps;
+mod view;
 
-// The `ensures` clause is the contract: what `echo` returns is `echo_of` of its argument, a definition
-// in `specs/Echo.antt`, which a caller's clause can cite too.
-pub fn echo(x: usize) -> usize
-    ensures { result ≡ echo_of x }
-{
-    x
-}
+pub use rule::{Leases, Size};
+pub use view::{Look, Miss, Piece, View};

@@ -1,0 +1,20 @@
+use Rattle.std.proofs.Common.{◌≡◌, ℕ, ◌+◌, ◌*◌, List, [], ◌∷◌, ◌++◌, length, get_or, take, refl, ◌∙◌, ap, sym, arith, length-take-le}
+use Rattle.std.proofs.lemmas.List.{take_more, take_all}
+use Rattle.cd_lease.specs.Steps.{holding, piece_of}
+use Rattle.cd_lease.proofs.Filling.{ends_at}
+use Rattle.cd_lease.proofs.steps.finish.Goals as goal
+
+pub store-requires : goal.store-requires
+store-requires c =
+    let len : length (take c.args.i c.args.words.now) ≡ c.args.i = length-take-le c.args.i c.args.words.now (let w = c.requires.last in omega arith) in (
+      c.requires.at.same,
+      (let l = c.requires.at.long in let b = c.requires.block in let w = c.requires.last in let s = c.requires.short in omega arith),
+      ends_at c.args.table.now.key c.args.table.now.table_id.slots c.args.seat.now.id c.args.seat.now.me
+          (piece_of c.args.id (take c.args.i c.args.words.now)) c.args.i len c.requires.filling c.index-words-i.result,
+    )
+
+pub returns-clause-at : goal.returns-clause-at
+returns-clause-at c = record { same = c.store.ensures.0 ∙ c.requires.at.same; long = c.requires.at.long }
+
+pub returns-clause-me : goal.returns-clause-me
+returns-clause-me c = ?
