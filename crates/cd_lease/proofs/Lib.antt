@@ -7,3 +7,5 @@ pub mod Stepping
 pub mod Controls
 pub mod Taking
 pub mod Filling
+pub mod Parting
+pub mod Searching

@@ -1,7 +1,9 @@
 //! Preserved words in one table of blocks that all passes share, over all interleavings of single steps.
 #![tactic(auto)]
 
+mod passing;
 mod rule;
+mod search;
 mod steps;
 mod view;
 

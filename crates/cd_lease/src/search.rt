@@ -1,0 +1,82 @@
+// The search for a free block: each block is met once, from one of them on and round.
+ghost use Rattle.std.specs.Prelude.{◌≡◌, ◌+◌, ◌/◌, ◌<◌, ◌≤◌, MatchBool, MatchOption};
+ghost use Rattle.cd_lease.specs.Control.{IsOpen, IsShut};
+ghost use Rattle.cd_lease.specs.Seats.{IsAt, IsIdle};
+ghost use Rattle.cd_lease.specs.Steps.{id_of};
+ghost use Rattle.cd_lease.specs.Trying.{PassesBy, Finds, PassesAll, FindsAround};
+
+use crate::rule::{Place, Steps};
+use crate::steps::{look, take_block};
+use cd_keep::KeepId;
+
+// One serial in a control word, above the count of holders.
+const SERIAL: u64 = 16_777_216;
+
+const LAST_SERIAL: u64 = 1_099_511_627_775;
+
+// Whether a block may be taken from this control word.
+fn is_open(word: u64) -> bool
+    ensures { MatchBool result (IsOpen word) (IsShut word) }
+{
+    word % SERIAL == 0 && word / SERIAL < LAST_SERIAL
+}
+
+// The serial of a control word.
+pub(crate) fn serial(word: u64) -> u64
+    ensures { result ≡ word / 16777216 }
+{
+    word / SERIAL
+}
+
+// Meets one block, and takes it where it is open: a filling under the next serial begins. The serial comes back.
+fn try_block(table: &Steps, seat: &mut Place, block: u32) -> Option<u64>
+    requires at { IsAt table.now.table_id seat.old.table_id table.now.key }
+    requires block { block < table.now.key.blocks }
+    requires idle { IsIdle seat.old.me.0 }
+    requires room { 0 < seat.old.me.0.room }
+    ensures at { IsAt table.now.table_id seat.new.table_id table.now.key }
+    ensures outcome { MatchOption result (PassesBy block (block + 1) seat.old.me seat.new.me) (λ n. Finds block seat.old.me seat.new.me (id_of block n)) }
+{
+    let word = look(table, seat, block);
+    if !is_open(word) {
+        return None;
+    }
+    if take_block(table, seat, block, word) != word {
+        return None;
+    }
+    Some(serial(word) + 1)
+}
+
+// Meets the blocks from `low` on and below `high` until it has taken one.
+fn try_between(table: &Steps, seat: &mut Place, low: u32, high: u32) -> Option<KeepId>
+    requires at { IsAt table.now.table_id seat.old.table_id table.now.key }
+    requires order { low ≤ high }
+    requires within { high ≤ table.now.key.blocks }
+    requires idle { IsIdle seat.old.me.0 }
+    requires room { 0 < seat.old.me.0.room }
+    ensures at { IsAt table.now.table_id seat.new.table_id table.now.key }
+    ensures outcome { MatchOption result (PassesBy low high seat.old.me seat.new.me) (λ id. Finds low seat.old.me seat.new.me id) }
+{
+    for block in low..high {
+        if let Some(serial) = try_block(table, seat, block) {
+            return Some(KeepId { block, serial });
+        }
+    }
+    None
+}
+
+// Meets all blocks, from `start` on and round, until it has taken one.
+pub(crate) fn search(table: &Steps, seat: &mut Place, blocks: u32, start: u32) -> Option<KeepId>
+    requires at { IsAt table.now.table_id seat.old.table_id table.now.key }
+    requires blocks { blocks ≡ table.now.key.blocks }
+    requires start { start < blocks }
+    requires idle { IsIdle seat.old.me.0 }
+    requires room { 0 < seat.old.me.0.room }
+    ensures at { IsAt table.now.table_id seat.new.table_id table.now.key }
+    ensures outcome { MatchOption result (PassesAll blocks seat.old.me seat.new.me) (λ id. FindsAround blocks seat.old.me seat.new.me id) }
+{
+    if let Some(id) = try_between(table, seat, start, blocks) {
+        return Some(id);
+    }
+    try_between(table, seat, 0, start)
+}
