@@ -9,3 +9,5 @@ pub mod Taking
 pub mod Filling
 pub mod Parting
 pub mod Searching
+pub mod StoreNumbers
+pub mod IdProps

@@ -5,3 +5,6 @@ pub mod Rule
 pub mod Seats
 pub mod Steps
 pub mod Trying
+pub mod Stores
+pub mod Passes
+pub mod Leases

@@ -75,3 +75,16 @@ keeping v ls id words = record v {
   takes = v.takes + 1;
   looks = v.looks ++ ls;
 }
+
+-- what a try comes to: no block was free as it was met, and all else stays
+pub record NotKept (blocks : ℕ) (v w : View) : Type 0 where
+  pub seen : List Look
+  pub now : w ≡ met v seen
+  pub passed : AllPassedBy blocks seen
+
+-- or words are kept in the first block that was free, under an id that was not known
+pub record KeptAs (blocks : ℕ) (v w : View) (piece : List ℕ) (id : KeepId) : Type 0 where
+  pub seen : List Look
+  pub now : w ≡ keeping v seen id piece
+  pub found : FoundAround blocks seen id
+  pub fresh : words_under v.known id ≡ None

@@ -1,11 +1,14 @@
 //! Preserved words in one table of blocks that all passes share, over all interleavings of single steps.
 #![tactic(auto)]
 
+mod hints;
+mod lease_pass;
 mod passing;
 mod rule;
-mod search;
 mod steps;
+mod trying;
 mod view;
 
+pub use lease_pass::{LeasePass, Try};
 pub use rule::{Leases, Size};
 pub use view::{Look, Miss, Piece, View};

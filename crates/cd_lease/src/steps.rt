@@ -1,6 +1,7 @@
 // Each kind of step on the table of blocks, one function for each, with all that it does to the pass's view.
 ghost use Rattle.std.specs.Prelude.{◌≡◌, ◌≢◌, ℕ, ◌+◌, ◌*◌, ◌<◌, ◌≤◌, [], ◌∷◌, None, Some, length, slice_get, slice_index, take};
-ghost use Rattle.cd_lease.specs.Control.{IsOpen, serial_of};
+ghost use Rattle.cd_keep.specs.PassModel.{IsPiece};
+ghost use Rattle.cd_lease.specs.Control.{IsOpen};
 ghost use Rattle.cd_lease.specs.Views.{times, words_under};
 ghost use Rattle.cd_lease.specs.Seats.{IsAt, IsIdle};
 ghost use Rattle.cd_lease.specs.Steps.{met, look_of, taking, next_id, growing, holding, piece_of, leaving};
@@ -81,4 +82,20 @@ pub(crate) fn leave(table: &Steps, seat: &mut Place, id: KeepId) -> u64
     ensures me { seat.new.me ≡ (leaving seat.old.me.0 id, seat.old.me.1) }
 {
     table.fetch_sub::<Leaving>(seat, 65 * id.block as usize, 1)
+}
+
+// Fills a block that was taken: it is held, with these words.
+pub(crate) fn fill(table: &Steps, seat: &mut Place, id: KeepId, words: &[u64])
+    requires at { IsAt table.now.table_id seat.old.table_id table.now.key }
+    requires block { id.block < table.now.key.blocks }
+    requires piece { IsPiece words.now }
+    requires filling { seat.old.me.0.filling ≡ Some (piece_of id []) }
+    ensures at { IsAt table.now.table_id seat.new.table_id table.now.key }
+    ensures me { seat.new.me ≡ (holding seat.old.me.0 (piece_of id words.now), seat.old.me.1) }
+{
+    let last = words.len() - 1;
+    for i in 0..last {
+        write(table, seat, id, words, i);
+    }
+    finish(table, seat, id, words, last);
 }
