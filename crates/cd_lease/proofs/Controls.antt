@@ -12,7 +12,7 @@ use Rattle.cd_lease.specs.declared.view.Miss.{Miss}
 use Rattle.cd_lease.specs.Control.{users_of, serial_of, control_at, users_in, serial_in, word_in}
 use Rattle.cd_lease.specs.Views.{times, one_out, words_under, one_if, one_there, ids_of, fills_of, tries_of, holds_in, fills_in, uses_in, spent_by, total}
 use Rattle.cd_lease.specs.Rule.{fillers, IsHeld, IsMissed, AllMissed, Stands, IsAlone, Leased}
-use Rattle.cd_lease.specs.Steps.{Sat, met, look_of, id_of, Looks, Leaves, leaving, Shares, sharing, missing, miss_of, Returns, giving_back}
+use Rattle.cd_lease.specs.Steps.{with_view, Sat, met, look_of, id_of, Looks, Leaves, leaving, Shares, sharing, missing, miss_of, Returns, giving_back}
 use Rattle.cd_lease.proofs.Sums.{total_set, total_at}
 use Rattle.cd_lease.proofs.Counting.{inside, id_from, one_at, one_off, held_in_block, times_cases, times_fewer, length_one_out, ids_one_out, some_of}
 use Rattle.cd_lease.proofs.TableWords.{control_now, control_else, words_stay, serials_stay}
@@ -186,7 +186,7 @@ module _ (size : Size) (slots id : ℕ) (me : Sat) where
         keeps,
         tt,
         met_kept size s r id me.0 at (look_of b n ∷ []) b h me.1,
-        (λ d e. ap (λ (x : ℕ). (met me.0 (look_of x n ∷ []), me.1)) (block_from b d e)),
+        (λ d e. ap (λ (x : ℕ). with_view me (met me.0 (look_of x n ∷ []))) (block_from b d e)),
       )
 
   pub leaves_allows : (p : KeepId) → p.block < size.blocks → 0 < times me.0.holds p
@@ -207,7 +207,7 @@ module _ (size : Size) (slots id : ℕ) (me : Sat) where
         keeps,
         tt,
         left_kept size s r id me.0 at p h held ((n + (2 ^ 64 - 1)) % 2 ^ 64) after.0 after.1 me.1,
-        (λ q k e. ap (λ (x : KeepId). (leaving me.0 x, me.1)) (same_id_as q k e)),
+        (λ q k e. ap (λ (x : KeepId). with_view me (leaving me.0 x)) (same_id_as q k e)),
       )
 
   pub shares_allows : (p : KeepId) → p.block < size.blocks → IsSome (words_under me.0.known p) → 0 < me.0.room → me.0.trying ≡ None

@@ -13,7 +13,7 @@ use Rattle.cd_lease.specs.declared.view.Piece.{Piece}
 use Rattle.cd_lease.specs.Control.{users_of, serial_of, control_at, word_at, users_in, serial_in, word_in, Begins}
 use Rattle.cd_lease.specs.Views.{times, words_under, one_if, one_there, ids_of, fills_of, tries_of, holds_in, fills_in, uses_in, spent_by, total}
 use Rattle.cd_lease.specs.Rule.{fillers, IsHeld, IsKnown, IsFilled, Stands, IsAlone, Leased}
-use Rattle.cd_lease.specs.Steps.{Sat, longer, growing, holding, Writes, Ends, Reads}
+use Rattle.cd_lease.specs.Steps.{with_view, Sat, longer, growing, holding, Writes, Ends, Reads}
 use Rattle.cd_lease.proofs.Sums.{total_set, total_at, total_two}
 use Rattle.cd_lease.proofs.Counting.{inside, not_some, some_of, one_at, one_off, fills_self, first_words, times_cases, words_cases, known_still}
 use Rattle.cd_lease.proofs.TableWords.{controls_stay, word_now, words_else, words_before}
@@ -180,7 +180,7 @@ module _ (size : Size) (slots id : ℕ) (me : Sat) where
     keeps,
     tt,
     grown_kept size s r id me.0 at p fill n short me.1,
-    (λ q e k. ap (λ (x : Piece). (growing me.0 (longer x n), me.1)) (inside p q (sym fill ∙ e))),
+    (λ q e k. ap (λ (x : Piece). with_view me (growing me.0 (longer x n))) (inside p q (sym fill ∙ e))),
   )
 
   pub writes_at : (p : Piece) (i : ℕ) → length p.words ≡ i → me.0.filling ≡ Some p → i + 1 < 64 → (n : ℕ)
@@ -197,7 +197,7 @@ module _ (size : Size) (slots id : ℕ) (me : Sat) where
     keeps,
     tt,
     ended_kept size s r id me.0 at p fill n me.1,
-    (λ q e k. ap (λ (x : Piece). (holding me.0 (longer x n), me.1)) (inside p q (sym fill ∙ e))),
+    (λ q e k. ap (λ (x : Piece). with_view me (holding me.0 (longer x n))) (inside p q (sym fill ∙ e))),
   )
 
   pub ends_at : (p : Piece) (i : ℕ) → length p.words ≡ i → me.0.filling ≡ Some p → (n : ℕ)

@@ -10,4 +10,6 @@ pub mod Filling
 pub mod Parting
 pub mod Searching
 pub mod StoreNumbers
-pub mod IdProps
+pub mod Held
+pub mod Opening
+pub mod Worked

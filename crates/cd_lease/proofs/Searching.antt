@@ -6,7 +6,7 @@ use Rattle.cd_lease.specs.declared.view.View.{View}
 use Rattle.cd_lease.specs.Control.{IsOpen, IsShut}
 use Rattle.cd_lease.specs.Views.{words_under}
 use Rattle.cd_lease.specs.Seats.{IsIdle}
-use Rattle.cd_lease.specs.Steps.{Sat, met, look_of, id_of, next_id, taking}
+use Rattle.cd_lease.specs.Steps.{with_view, Sat, met, look_of, id_of, next_id, taking}
 use Rattle.cd_lease.specs.Trying.{PassedBy, none, shut, lost, Found, FoundAround, AllPassedBy, PassesBy, Finds, PassesAll, FindsAround}
 
 pub passed_on : {a b c : ℕ} {ls ms : List Look} → PassedBy a b ls → PassedBy b c ms → PassedBy a c (ls ++ ms)
@@ -19,12 +19,12 @@ met_more : (v : View) (ls ms : List Look) → met (met v ls) ms ≡ met v (ls ++
 met_more v ls ms = ap (λ (xs : List Look). record v { looks = xs }) (append_assoc v.looks ls ms)
 
 pub nothing_passed : (b : ℕ) (m : Sat) → PassesBy b b m m
-nothing_passed b m = record { seen = []; now = ap (λ (xs : List Look). (record m.0 { looks = xs }, m.1)) (sym (append-nil m.0.looks)); passed = none }
+nothing_passed b m = record { seen = []; now = ap (λ (xs : List Look). with_view m (record m.0 { looks = xs })) (sym (append-nil m.0.looks)); passed = none }
 
 pub passes_on : (a b c : ℕ) (m n o : Sat) → PassesBy a b m n → PassesBy b c n o → PassesBy a c m o
 passes_on a b c m n o p q = record {
   seen = p.seen ++ q.seen;
-  now = q.now ∙ (ap (λ (x : Sat). (met x.0 q.seen, x.1)) p.now ∙ ap (λ (x : View). (x, m.1)) (met_more m.0 p.seen q.seen));
+  now = q.now ∙ (ap (λ (x : Sat). with_view x (met x.0 q.seen)) p.now ∙ ap (λ (x : View). with_view m x) (met_more m.0 p.seen q.seen));
   passed = passed_on p.passed q.passed;
 }
 
@@ -50,9 +50,9 @@ found_on a b ls ms id p f = record {
   next = f.next;
 }
 
-taking_more : (m n : Sat) (ls ms : List Look) (id : KeepId) → n ≡ (met m.0 ls, m.1) → (taking (met n.0 ms) id, n.1) ≡ (taking (met m.0 (ls ++ ms)) id, m.1)
+taking_more : (m n : Sat) (ls ms : List Look) (id : KeepId) → n ≡ (met m.0 ls, m.1) → with_view n (taking (met n.0 ms) id) ≡ with_view m (taking (met m.0 (ls ++ ms)) id)
 taking_more m n ls ms id e =
-    ap (λ (x : Sat). (taking (met x.0 ms) id, x.1)) e ∙ ap (λ (x : View). (taking x id, m.1)) (met_more m.0 ls ms)
+    ap (λ (x : Sat). with_view x (taking (met x.0 ms) id)) e ∙ ap (λ (x : View). with_view m (taking x id)) (met_more m.0 ls ms)
 
 pub finds_on : (a b : ℕ) (m n o : Sat) (id : KeepId) → PassesBy a b m n → Finds b n o id → Finds a m o id
 finds_on a b m n o id p f = record {
@@ -75,7 +75,7 @@ pub lost_block : (b word other : ℕ) (m n o : Sat) → IsOpen word → other �
     → PassesBy b (b + 1) m o
 lost_block b word other m n o is ne e f = record {
   seen = look_of b word ∷ look_of b other ∷ [];
-  now = f ∙ (ap (λ (x : Sat). (met x.0 (look_of b other ∷ []), x.1)) e ∙ ap (λ (x : View). (x, m.1)) (met_more m.0 (look_of b word ∷ []) (look_of b other ∷ [])));
+  now = f ∙ (ap (λ (x : Sat). with_view x (met x.0 (look_of b other ∷ []))) e ∙ ap (λ (x : View). with_view m x) (met_more m.0 (look_of b word ∷ []) (look_of b other ∷ [])));
   passed = subst (λ (c : ℕ). PassedBy b c (look_of b word ∷ look_of b other ∷ [])) (sym (add-one b)) (lost is ne none);
 }
 
@@ -83,7 +83,7 @@ pub won_block : (b word : ℕ) (m n o : Sat) → IsOpen word → n ≡ (met m.0 
     → words_under n.0.known (next_id b word) ≡ None → Finds b m o (next_id b word)
 won_block b word m n o is e f new = record {
   seen = look_of b word ∷ [];
-  now = f ∙ ap (λ (x : Sat). (taking x.0 (next_id b word), x.1)) e;
+  now = f ∙ ap (λ (x : Sat). with_view x (taking x.0 (next_id b word))) e;
   found = record { before = []; word = word; whole = refl; passed = none; is_open = is; next = refl };
   fresh = ap (λ ps. words_under ps (next_id b word)) (sym (ap (λ (x : Sat). x.0.known) e)) ∙ new;
 }
@@ -94,7 +94,7 @@ pub all_passed : (start blocks : ℕ) (m n o : Sat) → PassesBy start blocks m 
 all_passed start blocks m n o p q =
     record {
       seen = p.seen ++ q.seen;
-      now = q.now ∙ (ap (λ (x : Sat). (met x.0 q.seen, x.1)) p.now ∙ ap (λ (x : View). (x, m.1)) (met_more m.0 p.seen q.seen));
+      now = q.now ∙ (ap (λ (x : Sat). with_view x (met x.0 q.seen)) p.now ∙ ap (λ (x : View). with_view m x) (met_more m.0 p.seen q.seen));
       passed = record { start = start; first = p.seen; second = q.seen; whole = refl; onward = p.passed; around = q.passed };
     }
 

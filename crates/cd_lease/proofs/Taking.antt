@@ -13,7 +13,7 @@ use Rattle.cd_lease.specs.Control.{users_of, serial_of, control_at, users_in, se
 use Rattle.cd_lease.specs.Views.{words_under, one_if, one_there, ids_of, fills_of, tries_of, holds_in, fills_in, uses_in, spent_by, total}
 use Rattle.cd_lease.specs.Rule.{fillers, IsFilled, Stands, IsAlone, Leased}
 use Rattle.cd_lease.specs.Seats.{IsIdle}
-use Rattle.cd_lease.specs.Steps.{Sat, met, look_of, id_of, next_id, piece_of, taking, Takes}
+use Rattle.cd_lease.specs.Steps.{with_view, Sat, met, look_of, id_of, next_id, piece_of, taking, Takes}
 use Rattle.cd_lease.proofs.Sums.{total_set, total_at, total_most}
 use Rattle.cd_lease.proofs.Counting.{inside, none_from, one_at, one_off}
 use Rattle.cd_lease.proofs.TableWords.{control_now, control_else, words_stay}
@@ -143,7 +143,7 @@ module _ (size : Size) (slots id : ℕ) (me : Sat) where
                     (taken_kept size s r id me.0 at b old h e is_open idle room me.1)),
             (λ d q. (
               (λ _. (
-                ap (λ (x : ℕ). (taking me.0 (next_id x n), me.1)) (block_from b d q),
+                ap (λ (x : ℕ). with_view me (taking me.0 (next_id x n))) (block_from b d q),
                 subst (λ (x : ℕ). words_under me.0.known (next_id x n) ≡ None) (block_from b d q)
                     (subst (λ (x : ℕ). words_under me.0.known (next_id b x) ≡ None) (sym e) (fresh_id size s r id me.0 at b old h e is_open idle)),
               )),
@@ -156,6 +156,6 @@ module _ (size : Size) (slots id : ℕ) (me : Sat) where
             tt,
             subst (λ t. Leased size (stepped s (control_at b) (either t (old + 16777217) n) id me.1 (met me.0 (look_of b n ∷ [])) keeps)) (sym (ne_eqb n old ne))
                 (met_kept size s r id me.0 at (look_of b n ∷ []) b h me.1),
-            (λ d q. ((λ e. absurd (ne e)), λ _. ap (λ (x : ℕ). (met me.0 (look_of x n ∷ []), me.1)) (block_from b d q))),
+            (λ d q. ((λ e. absurd (ne e)), λ _. ap (λ (x : ℕ). with_view me (met me.0 (look_of x n ∷ []))) (block_from b d q))),
           ))
           (cases_eq n old)

@@ -7,4 +7,6 @@ pub mod Steps
 pub mod Trying
 pub mod Stores
 pub mod Passes
+pub mod IdProps
 pub mod Leases
+pub mod Laws

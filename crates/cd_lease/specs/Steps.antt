@@ -13,6 +13,12 @@ use Rattle.cd_lease.specs.Views.{times, one_out, words_under}
 abbrev pub Sat : Type 0
 Sat = Me (Unit {0}) View
 
+abbrev pub with_view : Sat → View → Sat
+with_view m v = (v, m.1)
+
+abbrev pub bare_sat : View → Sat
+bare_sat v = (v, [])
+
 abbrev pub Tells : Type 1
 Tells = Step (Unit {0}) → Sat → ℕ → Sat → Type 0
 

@@ -4,7 +4,7 @@ ghost use Rattle.std.specs.Arc.{arc_value};
 ghost use Rattle.cd_keep.specs.PassModel.{IsPiece};
 ghost use Rattle.cd_lease.specs.Seats.{IsAt};
 ghost use Rattle.cd_lease.specs.Passes.{Rests, IsSize};
-ghost use Rattle.cd_lease.proofs.IdProps.{id_props};
+ghost use Rattle.cd_lease.specs.IdProps.{id_props};
 
 use crate::hints::Hints;
 use crate::passing::{give_back, part, share, take_back};

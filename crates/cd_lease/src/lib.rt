@@ -2,6 +2,7 @@
 #![tactic(auto)]
 
 mod hints;
+pub mod laws;
 mod lease_pass;
 mod passing;
 mod rule;
@@ -12,3 +13,4 @@ mod view;
 pub use lease_pass::{LeasePass, Try};
 pub use rule::{Leases, Size};
 pub use view::{Look, Miss, Piece, View};
+

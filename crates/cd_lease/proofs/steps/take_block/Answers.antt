@@ -1,4 +1,6 @@
-use Rattle.std.proofs.Common.{refl, ◌∙◌, ap, sym, subst, arith}
+use Rattle.std.proofs.Common.{◌≡◌, ℕ, None, refl, ◌∙◌, ap, subst, arith}
+use Rattle.cd_lease.specs.Steps.{with_view, taking, next_id}
+use Rattle.cd_lease.specs.Views.{words_under}
 use Rattle.cd_lease.proofs.Taking.{takes_allows}
 use Rattle.cd_lease.proofs.steps.take_block.Goals as goal
 
@@ -14,10 +16,13 @@ pub returns-clause-at : goal.returns-clause-at
 returns-clause-at c = record { same = c.compare_exchange.ensures.0 ∙ c.requires.at.same; long = c.requires.at.long }
 
 pub returns-clause-won : goal.returns-clause-won
-returns-clause-won c = λ e. ?
+returns-clause-won c = λ e.
+    ((c.compare_exchange.ensures.2 c.args.block refl).0 e).0
+    ∙ ap (λ (x : ℕ). with_view c.args.seat.now.me (taking c.args.seat.now.me.0 (next_id c.args.block x))) e
 
 pub returns-clause-fresh : goal.returns-clause-fresh
-returns-clause-fresh c = λ e. ?
+returns-clause-fresh c = λ e.
+    subst (λ (x : ℕ). words_under c.args.seat.now.me.0.known (next_id c.args.block x) ≡ None) e ((c.compare_exchange.ensures.2 c.args.block refl).0 e).1
 
 pub returns-clause-lost : goal.returns-clause-lost
 returns-clause-lost c = λ ne. (c.compare_exchange.ensures.2 c.args.block refl).1 ne
