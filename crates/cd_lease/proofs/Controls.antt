@@ -175,7 +175,7 @@ one_less_of : (n : ℕ) → n < 18446744073709551616 → 0 < users_of n
     → (serial_of ((n + (2 ^ 64 - 1)) % 2 ^ 64) ≡ serial_of n) × (users_of ((n + (2 ^ 64 - 1)) % 2 ^ 64) + 1 ≡ users_of n)
 one_less_of n small some_users = (omega arith, omega arith)
 
-block_from : (b d : ℕ) → control_at b ≡ control_at d → b ≡ d
+pub block_from : (b d : ℕ) → control_at b ≡ control_at d → b ≡ d
 block_from b d e = omega arith
 
 module _ (size : Size) (slots id : ℕ) (me : Sat) where

@@ -13,3 +13,4 @@ pub mod StoreNumbers
 pub mod Held
 pub mod Opening
 pub mod Worked
+pub mod Showing

@@ -71,7 +71,7 @@ module _ (size : Size) (s : St) (r : Leased size s) (id : ℕ) (v : View) (at : 
   fills_none d = ap (fills_of d) idle.filling
 
   change : (u : View) → uses_in b u ≡ 0 → (d : ℕ) → Change s.words vs (fillers s.views) (fillers (set s.views id (taking v (next_id b old)))) u d
-  change u none d = ⊎_elim
+  change u unused_by d = ⊎_elim
       (λ (e : d ≡ b). subst (λ (x : ℕ). Change s.words vs (fillers s.views) (fillers (set s.views id (taking v (next_id b old)))) u x) (sym e) (rises
           (let now = serial_now in let here : serial_in s.words b ≡ serial_of old = ap serial_of found in omega arith)
           (omega arith)

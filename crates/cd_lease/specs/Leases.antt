@@ -13,7 +13,7 @@ use Rattle.cd_lease.specs.declared.lease_pass.LeasePass.{LeasePass}
 use Rattle.cd_lease.specs.declared.lease_pass.Try.{Try}
 use Rattle.cd_lease.specs.declared.lease_pass.Try.TheVariants.{Kept, NotYet}
 use Rattle.cd_lease.specs.Views.{words_under}
-use Rattle.cd_lease.specs.Steps.{sharing, missing, giving_back}
+use Rattle.cd_lease.specs.Steps.{met, sharing, missing, giving_back}
 use Rattle.cd_lease.specs.Trying.{NotKept, KeptAs, keeping}
 use Rattle.cd_lease.specs.Stores.{number}
 use Rattle.cd_lease.specs.Passes.{shown_by}
@@ -35,6 +35,11 @@ Tries blocks v w piece NotYet = NotKept blocks v w
 abbrev pub KeepsTried : PassModel → PassModel → List ℕ → Try → Type 0
 KeepsTried p q piece (Kept id) = q ≡ kept p id piece
 KeepsTried p q piece NotYet = q ≡ p
+
+-- control words were met, and nothing else
+pub record Met (v w : View) : Type 0 where
+  pub seen : List Look
+  pub now : w ≡ met v seen
 
 -- what keeping words comes to, after any number of tries
 pub record KeepsAt (v w : View) (piece : List ℕ) (id : KeepId) : Type 0 where
