@@ -21,11 +21,9 @@ use Rattle.cd_lease.proofs.Changing.{Change, stays, rises, stands_on}
 use Rattle.cd_lease.proofs.Stepping.{St, fillers_stay, alone_still, step_kept}
 use Rattle.cd_lease.proofs.Controls.{met_kept, block_from}
 
-taken_word : (old : ℕ) → IsOpen old → (serial_of (old + 16777217) ≡ serial_of old + 1) × (users_of (old + 16777217) ≡ 1)
-taken_word old is = let u : users_of old ≡ 0 = is.0 in (omega arith, omega arith)
-
 module _ (size : Size) (s : St) (r : Leased size s) (id : ℕ) (v : View) (at : get_elem? s.views id ≡ some v)
-    (b old : ℕ) (h : b < size.blocks) (found : get_or s.words (control_at b) 0 ≡ old) (is_open : IsOpen old) (idle : IsIdle v) where
+    (b old new : ℕ) (h : b < size.blocks) (found : get_or s.words (control_at b) 0 ≡ old) (is_open : IsOpen old)
+    (rose : serial_of new ≡ serial_of old + 1) (one_user : users_of new ≡ 1) (idle : IsIdle v) where
   in_words : control_at b < length s.words
   in_words = let l : length s.words ≡ 65 * size.blocks = r.long in omega arith
 
@@ -59,10 +57,10 @@ module _ (size : Size) (s : St) (r : Leased size s) (id : ℕ) (v : View) (at : 
 
 
   abbrev vs : List ℕ
-  vs = set s.words (control_at b) (old + 16777217)
+  vs = set s.words (control_at b) new
 
   serial_now : serial_in vs b ≡ serial_of old + 1
-  serial_now = ap serial_of (control_now s.words b (old + 16777217) in_words) ∙ (taken_word old is_open).0
+  serial_now = ap serial_of (control_now s.words b new in_words) ∙ rose
 
   empty_fill : one_there v.filling ≡ 0
   empty_fill = ap one_there idle.filling
@@ -77,27 +75,27 @@ module _ (size : Size) (s : St) (r : Leased size s) (id : ℕ) (v : View) (at : 
           (omega arith)
           (omega arith)))
       (λ ne. stays
-          (ap serial_of (control_else s.words b (old + 16777217) d ne))
+          (ap serial_of (control_else s.words b new d ne))
           (fillers_stay size s r id v (taking v (next_id b old)) at d (one_off b d (λ e. ne (sym e)) ∙ sym (fills_none d)))
-          (λ i k. words_stay s.words b (old + 16777217) d i k))
+          (λ i k. words_stay s.words b new d i k))
       (cases_eq d b)
 
-  pub taken_kept : 0 < v.room → (c : List (ℕ × Unit {0})) → Leased size (stepped s (control_at b) (old + 16777217) id c (taking v (next_id b old)) keeps)
+  pub taken_kept : 0 < v.room → (c : List (ℕ × Unit {0})) → Leased size (stepped s (control_at b) new id c (taking v (next_id b old)) keeps)
   taken_kept room c =
       let to : View = taking v (next_id b old) in
       let mine = stands_on size.blocks s.words vs (fillers s.views) (fillers (set s.views id to)) v (r.each id v at)
               (λ d k. change v (not_used id v at) d) in
-      step_kept size s r id v to at (control_at b) (old + 16777217) c
+      step_kept size s r id v to at (control_at b) new c
           (let e = empty_fill in omega arith)
           (λ d k. ⊎_elim
               (λ (q : d ≡ b). subst (λ (x : ℕ). users_in vs x + uses_in x v ≡ users_in s.words x + uses_in x to) (sym q)
-                  (let now : users_in vs b ≡ 1 = ap users_of (control_now s.words b (old + 16777217) in_words) ∙ (taken_word old is_open).1 in
+                  (let now : users_in vs b ≡ 1 = ap users_of (control_now s.words b new in_words) ∙ one_user in
                   let before : users_in s.words b ≡ 0 = ap users_of found ∙ is_open.0 in
                   let n = not_used id v at in
                   let one : one_if (b == b) ≡ 1 = one_at b b refl in
                   omega arith))
               (λ ne.
-                  let now : users_in vs d ≡ users_in s.words d = ap users_of (control_else s.words b (old + 16777217) d ne) in
+                  let now : users_in vs d ≡ users_in s.words d = ap users_of (control_else s.words b new d ne) in
                   let off : one_if (b == d) ≡ 0 = one_off b d (λ e. ne (sym e)) in
                   let n = fills_none d in
                   omega arith)
@@ -129,23 +127,23 @@ module _ (size : Size) (s : St) (r : Leased size s) (id : ℕ) (v : View) (at : 
           (λ k u ne e d l. change u (not_used k u e) d)
 
 module _ (size : Size) (slots id : ℕ) (me : Sat) where
-  pub takes_allows : (b old : ℕ) → b < size.blocks → IsOpen old → IsIdle me.0 → 0 < me.0.room
-      → Allows (Leased size) slots id me (control_at b) (λ n. either (n == old) (old + 16777217) n) (Takes (step slots (control_at b) old (old + 16777217) none) me)
-  takes_allows b old h is_open idle room s r homes at small =
+  pub takes_allows : (b old new : ℕ) → b < size.blocks → IsOpen old → serial_of new ≡ serial_of old + 1 → users_of new ≡ 1 → IsIdle me.0 → 0 < me.0.room
+      → Allows (Leased size) slots id me (control_at b) (λ n. either (n == old) new n) (Takes (step slots (control_at b) old new none) me)
+  takes_allows b old new h is_open rose one_user idle room s r homes at small =
       let n : ℕ = get_or s.words (control_at b) 0 in
       ⊎_elim
           (λ (e : n ≡ old). (
             taking me.0 (next_id b n),
             keeps,
             tt,
-            subst (λ t. Leased size (stepped s (control_at b) (either t (old + 16777217) n) id me.1 (taking me.0 (next_id b n)) keeps)) (sym (eq-eqb n old e))
-                (subst (λ (x : ℕ). Leased size (stepped s (control_at b) (old + 16777217) id me.1 (taking me.0 (next_id b x)) keeps)) (sym e)
-                    (taken_kept size s r id me.0 at b old h e is_open idle room me.1)),
+            subst (λ t. Leased size (stepped s (control_at b) (either t new n) id me.1 (taking me.0 (next_id b n)) keeps)) (sym (eq-eqb n old e))
+                (subst (λ (x : ℕ). Leased size (stepped s (control_at b) new id me.1 (taking me.0 (next_id b x)) keeps)) (sym e)
+                    (taken_kept size s r id me.0 at b old new h e is_open rose one_user idle room me.1)),
             (λ d q. (
               (λ _. (
                 ap (λ (x : ℕ). with_view me (taking me.0 (next_id x n))) (block_from b d q),
                 subst (λ (x : ℕ). words_under me.0.known (next_id x n) ≡ None) (block_from b d q)
-                    (subst (λ (x : ℕ). words_under me.0.known (next_id b x) ≡ None) (sym e) (fresh_id size s r id me.0 at b old h e is_open idle)),
+                    (subst (λ (x : ℕ). words_under me.0.known (next_id b x) ≡ None) (sym e) (fresh_id size s r id me.0 at b old new h e is_open rose one_user idle)),
               )),
               λ ne. absurd (ne e),
             )),
@@ -154,7 +152,7 @@ module _ (size : Size) (slots id : ℕ) (me : Sat) where
             met me.0 (look_of b n ∷ []),
             keeps,
             tt,
-            subst (λ t. Leased size (stepped s (control_at b) (either t (old + 16777217) n) id me.1 (met me.0 (look_of b n ∷ [])) keeps)) (sym (ne_eqb n old ne))
+            subst (λ t. Leased size (stepped s (control_at b) (either t new n) id me.1 (met me.0 (look_of b n ∷ [])) keeps)) (sym (ne_eqb n old ne))
                 (met_kept size s r id me.0 at (look_of b n ∷ []) b h me.1),
             (λ d q. ((λ e. absurd (ne e)), λ _. ap (λ (x : ℕ). with_view me (met me.0 (look_of x n ∷ []))) (block_from b d q))),
           ))

@@ -1,7 +1,7 @@
 // Each kind of step on the table of blocks, one function for each, with all that it does to the pass's view.
 ghost use Rattle.std.specs.Prelude.{◌≡◌, ◌≢◌, ℕ, ◌+◌, ◌*◌, ◌<◌, ◌≤◌, [], ◌∷◌, None, Some, length, slice_get, slice_index, take};
 ghost use Rattle.cd_keep.specs.PassModel.{IsPiece};
-ghost use Rattle.cd_lease.specs.Control.{IsOpen};
+ghost use Rattle.cd_lease.specs.Control.{IsOpen, serial_of, users_of};
 ghost use Rattle.cd_lease.specs.Views.{times, words_under};
 ghost use Rattle.cd_lease.specs.Seats.{IsAt, IsIdle};
 ghost use Rattle.cd_lease.specs.Steps.{met, look_of, taking, next_id, growing, holding, piece_of, leaving};
@@ -19,6 +19,15 @@ pub(crate) fn look(table: &Steps, seat: &mut Place, block: u32) -> u64
     table.load::<Looking>(seat, 65 * block as usize)
 }
 
+// The control word of an open block with the next serial and one user.
+fn taken(word: u64) -> u64
+    requires { IsOpen word }
+    ensures serial { serial_of result ≡ serial_of word + 1 }
+    ensures user { users_of result ≡ 1 }
+{
+    word + 16_777_217
+}
+
 // Takes a block, if its control word is still the one that was met: a filling begins. The word found comes back.
 pub(crate) fn take_block(table: &Steps, seat: &mut Place, block: u32, old: u64) -> u64
     requires at { IsAt table.now.table_id seat.old.table_id table.now.key }
@@ -31,7 +40,7 @@ pub(crate) fn take_block(table: &Steps, seat: &mut Place, block: u32, old: u64) 
     ensures fresh { result ≡ old → words_under seat.old.me.0.known (next_id block old) ≡ None }
     ensures lost { result ≢ old → seat.new.me ≡ (met seat.old.me.0 (look_of block result ∷ []), seat.old.me.1) }
 {
-    table.compare_exchange::<Taking>(seat, 65 * block as usize, old, old + 16_777_217)
+    table.compare_exchange::<Taking>(seat, 65 * block as usize, old, taken(old))
 }
 
 // Writes the i-th word of a piece, which is not its last, into the block that is filled with it.

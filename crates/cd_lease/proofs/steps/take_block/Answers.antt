@@ -8,8 +8,8 @@ pub compare_exchange-requires : goal.compare_exchange-requires
 compare_exchange-requires c = (
   c.requires.at.same,
   (let l = c.requires.at.long in let b = c.requires.block in omega arith),
-  takes_allows c.args.table.now.key c.args.table.now.table_id.slots c.args.seat.now.id c.args.seat.now.me c.args.block c.args.old
-      c.requires.block c.requires.open c.requires.idle c.requires.room,
+  takes_allows c.args.table.now.key c.args.table.now.table_id.slots c.args.seat.now.id c.args.seat.now.me c.args.block c.args.old c.taken.result
+      c.requires.block c.requires.open c.taken.ensures.serial c.taken.ensures.user c.requires.idle c.requires.room,
 )
 
 pub returns-clause-at : goal.returns-clause-at

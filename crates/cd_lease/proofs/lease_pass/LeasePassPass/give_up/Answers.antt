@@ -1,4 +1,4 @@
-use Rattle.std.proofs.Common.{length, sym, ap, ◌∙◌, subst}
+use Rattle.std.proofs.Common.{sym, ap, ◌∙◌, subst}
 use Rattle.std.specs.Arc.{arc_value}
 use Rattle.cd_lease.specs.Steps.{Sat}
 use Rattle.cd_lease.specs.Stores.{number}
@@ -7,27 +7,15 @@ use Rattle.cd_lease.specs.Leases.{model_of}
 use Rattle.cd_lease.proofs.Showing.{left_shown, left_rests}
 use Rattle.cd_lease.proofs.lease_pass.LeasePassPass.give_up.Goals as goal
 
-pub invariant_of-self : goal.invariant_of-self
+pub invariant_of-self-clause-rests : goal.invariant_of-self-clause-rests
 unfolding model_of
-invariant_of-self c = record {
-  at = c.leave-word.ensures.at;
-  size = c.args.self.now.size;
-  counted = c.args.self.now.counted;
-  rests = subst (λ (m : Sat). Rests (arc_value c.args.self.now.table).shared.key m.0) (sym c.leave-word.ensures.me)
-      (left_rests (arc_value c.args.self.now.table).shared.key c.args.self.now.seat.me.0 c.args.id c.requires c.args.self.now.rests);
-  bare = ap (λ (m : Sat). length m.1) c.leave-word.ensures.me ∙ c.args.self.now.bare;
-}
+invariant_of-self-clause-rests c = subst (λ (m : Sat). Rests (arc_value c.args.self.now.table).shared.key m.0) (sym c.leave-word.ensures.me)
+    (left_rests (arc_value c.args.self.now.table).shared.key c.args.self.now.seat.me.0 c.args.id c.requires c.args.self.now.rests)
 
-pub invariant_of-self-else-is_last_user : goal.invariant_of-self-else-is_last_user
+pub invariant_of-self-else-is_last_user-clause-rests : goal.invariant_of-self-else-is_last_user-clause-rests
 unfolding model_of
-invariant_of-self-else-is_last_user c = record {
-  at = c.leave-word.ensures.at;
-  size = c.args.self.now.size;
-  counted = c.args.self.now.counted;
-  rests = subst (λ (m : Sat). Rests (arc_value c.args.self.now.table).shared.key m.0) (sym c.leave-word.ensures.me)
-      (left_rests (arc_value c.args.self.now.table).shared.key c.args.self.now.seat.me.0 c.args.id c.requires c.args.self.now.rests);
-  bare = ap (λ (m : Sat). length m.1) c.leave-word.ensures.me ∙ c.args.self.now.bare;
-}
+invariant_of-self-else-is_last_user-clause-rests c = subst (λ (m : Sat). Rests (arc_value c.args.self.now.table).shared.key m.0) (sym c.leave-word.ensures.me)
+    (left_rests (arc_value c.args.self.now.table).shared.key c.args.self.now.seat.me.0 c.args.id c.requires c.args.self.now.rests)
 
 pub returns-then-is_last_user-clause-model : goal.returns-then-is_last_user-clause-model
 unfolding model_of
