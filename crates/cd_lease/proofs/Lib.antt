@@ -14,3 +14,4 @@ pub mod Held
 pub mod Opening
 pub mod Worked
 pub mod Showing
+pub mod Turning

@@ -10,3 +10,4 @@ pub mod Passes
 pub mod IdProps
 pub mod Leases
 pub mod Laws
+pub mod Turns

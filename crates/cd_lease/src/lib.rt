@@ -14,6 +14,5 @@ pub use lease_pass::{LeasePass, Try};
 pub use rule::{Leases, Size};
 pub use view::{Look, Miss, Piece, View};
 
-
 #[cfg(test)]
 mod tests;

@@ -1,12 +1,14 @@
 // Passes over one table of blocks, one after another and by many threads.
-ghost use Rattle.std.specs.Prelude.{◌≡◌, ◌+◌, ◌<◌, ◌≤◌, IfOk, OnOk};
-ghost use Rattle.cd_keep.specs.PassModel.{HoldsNothing, opened, joined, child_of, without};
+ghost use Rattle.std.specs.Prelude.{◌≡◌, ◌<◌, ◌∷◌, [], Some, IfOk, OnOk};
+ghost use Rattle.cd_keep.specs.PassModel.{HoldsNothing, opened};
 ghost use Rattle.cd_lease.specs.Leases.{model_of};
+ghost use Rattle.cd_lease.specs.Turns.{IsSpare};
 
 use crate::{LeasePass, Try};
 use cd_keep::{KeepId, Pass};
 use std::sync::Wait;
 use std::test::Fail;
+use std::thread::{Threads, join};
 
 // A number is as it should be.
 fn expect(found: u64, wanted: u64) -> Result<(), Fail> {
@@ -26,6 +28,13 @@ fn expect_not_yet(found: Try) -> Result<(), Fail> {
     match found {
         Try::NotYet => Ok(()),
         Try::Kept(_) => Err(Fail::new("a block that somebody holds")),
+    }
+}
+
+fn expect_kept(found: Try) -> Result<(), Fail> {
+    match found {
+        Try::Kept(_) => Ok(()),
+        Try::NotYet => Err(Fail::new("no block, where one is free")),
     }
 }
 
@@ -62,4 +71,105 @@ fn one_block_three_keeps<R: Wait>(rt: &R, pass: &mut LeasePass) -> Result<(), Fa
 fn a_block_is_taken_again_with_the_next_serial(rt: HostRuntime) -> Result<(), Fail> {
     let mut pass = LeasePass::open(rt.alloc(), 1, 3)?;
     one_block_three_keeps(&rt, &mut pass)
+}
+
+// Shares what was seen, if it is still there, reads it and gives it up.
+fn shares_what_was_seen(pass: &mut LeasePass, seen: KeepId) -> Result<(), Fail>
+    requires known { (model_of pass.old).known seen ≡ Some (7 ∷ []) }
+    requires room { 0 < (model_of pass.old).room }
+    requires nothing { HoldsNothing (model_of pass.old) }
+    ensures { OnOk result (IsSpare (model_of pass.old) (model_of pass.new)) }
+{
+    match pass.share(seen) {
+        Ok(()) => {
+            let word = pass.word(seen, 0);
+            pass.give_up(seen);
+            expect(word, 7)?;
+            Ok(())
+        }
+        Err(note) => {
+            if note.found() <= note.seen() {
+                return Err(Fail::new("gone, and no later serial"));
+            }
+            Ok(())
+        }
+    }
+}
+
+// Keeps two words, reads the second and gives them up.
+fn keeps_two_words<R: Wait>(rt: &R, pass: &mut LeasePass, word: u64) -> Result<(), Fail>
+    requires room { 0 < (model_of pass.old).room }
+    requires nothing { HoldsNothing (model_of pass.old) }
+    ensures { OnOk result (IsSpare (model_of pass.old) (model_of pass.new)) }
+{
+    let id = pass.keep(rt, [0, word].as_slice())?;
+    let read = pass.word(id, 1);
+    pass.give_up(id);
+    expect(read, word)?;
+    Ok(())
+}
+
+// So many turns of a pass that begins with nothing and ends so.
+fn turns<R: Wait>(rt: &R, mut pass: LeasePass, seen: KeepId, count: u64) -> Result<LeasePass, Fail>
+    requires known { (model_of pass).known seen ≡ Some (7 ∷ []) }
+    requires room { 0 < (model_of pass).room }
+    requires nothing { HoldsNothing (model_of pass) }
+    ensures { IfOk result (λ after. IsSpare (model_of pass) (model_of after)) }
+{
+    for turn in 0..count {
+        shares_what_was_seen(&mut pass, seen)?;
+        keeps_two_words(rt, &mut pass, turn)?;
+    }
+    Ok(pass)
+}
+
+// Two passes at the same time.
+fn two_at_once<R: Threads + Wait + Sync>(
+    rt: &R,
+    one: LeasePass,
+    two: LeasePass,
+    seen: KeepId,
+) -> Result<(LeasePass, LeasePass), Fail>
+    requires known { ((model_of one).known seen ≡ Some (7 ∷ [])) × ((model_of two).known seen ≡ Some (7 ∷ [])) }
+    requires room { (0 < (model_of one).room) × (0 < (model_of two).room) }
+    requires nothing { HoldsNothing (model_of one) × HoldsNothing (model_of two) }
+    ensures one { IfOk result (λ both. IsSpare (model_of one) (model_of both.0)) }
+    ensures two { IfOk result (λ both. IsSpare (model_of two) (model_of both.1)) }
+{
+    let (first, second) = join(
+        rt,
+        move || -> Result<LeasePass, Fail>
+            requires { ((model_of one).known seen ≡ Some (7 ∷ [])) × (0 < (model_of one).room) × HoldsNothing (model_of one) }
+            ensures { IfOk result (λ after. IsSpare (model_of one) (model_of after)) }
+        { turns(rt, one, seen, 200) },
+        move || -> Result<LeasePass, Fail>
+            requires { ((model_of two).known seen ≡ Some (7 ∷ [])) × (0 < (model_of two).room) × HoldsNothing (model_of two) }
+            ensures { IfOk result (λ after. IsSpare (model_of two) (model_of after)) }
+        { turns(rt, two, seen, 200) },
+    );
+    let first = first?;
+    let second = second?;
+    Ok((first, second))
+}
+
+// Two blocks, and two threads that keep, share, give up and end. Then both blocks are free.
+fn two_blocks<R: Threads + Wait + Sync>(rt: &R, pass: &mut LeasePass) -> Result<(), Fail>
+    requires { model_of pass.old ≡ opened (model_of pass.old).store 6 }
+{
+    let seen = pass.keep(rt, [7].as_slice())?;
+    let one = pass.split(2)?;
+    let two = pass.split(2)?;
+    pass.give_up(seen);
+    let (one, two) = two_at_once(rt, one, two, seen)?;
+    pass.join(one);
+    pass.join(two);
+    expect_kept(pass.try_keep([1].as_slice()))?;
+    expect_kept(pass.try_keep([2].as_slice()))?;
+    expect_not_yet(pass.try_keep([3].as_slice()))
+}
+
+#[test]
+fn threads_keep_in_few_blocks_and_leave_them_free(rt: HostRuntime) -> Result<(), Fail> {
+    let mut pass = LeasePass::open(rt.alloc(), 2, 6)?;
+    two_blocks(&rt, &mut pass)
 }

@@ -1,0 +1,11 @@
+-- What a pass is after a turn in which it gave up all that it came to hold. The tests of many threads rest on it.
+use Rattle.std.specs.Prelude.{◌≡◌, ℕ, List, Some}
+use Rattle.cd_keep.specs.declared.keep_id.KeepId.{KeepId}
+use Rattle.cd_keep.specs.PassModel.{PassModel, HoldsNothing}
+
+pub record IsSpare (p q : PassModel) : Type 0 where
+  pub room : q.room ≡ p.room
+  pub most : q.most ≡ p.most
+  pub store : q.store ≡ p.store
+  pub nothing : HoldsNothing q
+  pub known : (id : KeepId) (piece : List ℕ) → p.known id ≡ Some piece → q.known id ≡ Some piece
