@@ -1,5 +1,6 @@
 // Passes over one table of blocks, one after another and by many threads.
-ghost use Rattle.std.specs.Prelude.{◌≡◌, ◌<◌, ◌∷◌, [], Some, IfOk, OnOk};
+ghost use Rattle.std.specs.Prelude.{◌≡◌, ◌-◌, ◌<◌, ◌∷◌, [], Some, IfOk, OnOk};
+ghost use Rattle.std.specs.Thread.{IsSync};
 ghost use Rattle.cd_keep.specs.PassModel.{HoldsNothing, opened};
 ghost use Rattle.cd_lease.specs.Leases.{model_of};
 ghost use Rattle.cd_lease.specs.Turns.{IsSpare};
@@ -28,13 +29,6 @@ fn expect_not_yet(found: Try) -> Result<(), Fail> {
     match found {
         Try::NotYet => Ok(()),
         Try::Kept(_) => Err(Fail::new("a block that somebody holds")),
-    }
-}
-
-fn expect_kept(found: Try) -> Result<(), Fail> {
-    match found {
-        Try::Kept(_) => Ok(()),
-        Try::NotYet => Err(Fail::new("no block, where one is free")),
     }
 }
 
@@ -73,8 +67,19 @@ fn a_block_is_taken_again_with_the_next_serial(rt: HostRuntime) -> Result<(), Fa
     one_block_three_keeps(&rt, &mut pass)
 }
 
+// What went wrong in a thread. It may be let go.
+type Wrong = &'static str;
+
+fn same(found: u64, wanted: u64) -> Result<(), Wrong> {
+    if found == wanted {
+        Ok(())
+    } else {
+        Err("another word")
+    }
+}
+
 // Shares what was seen, if it is still there, reads it and gives it up.
-fn shares_what_was_seen(pass: &mut LeasePass, seen: KeepId) -> Result<(), Fail>
+fn shares_what_was_seen(pass: &mut LeasePass, seen: KeepId) -> Result<(), Wrong>
     requires known { (model_of pass.old).known seen ≡ Some (7 ∷ []) }
     requires room { 0 < (model_of pass.old).room }
     requires nothing { HoldsNothing (model_of pass.old) }
@@ -84,12 +89,12 @@ fn shares_what_was_seen(pass: &mut LeasePass, seen: KeepId) -> Result<(), Fail>
         Ok(()) => {
             let word = pass.word(seen, 0);
             pass.give_up(seen);
-            expect(word, 7)?;
+            same(word, 7)?;
             Ok(())
         }
         Err(note) => {
             if note.found() <= note.seen() {
-                return Err(Fail::new("gone, and no later serial"));
+                return Err("gone, and no later serial");
             }
             Ok(())
         }
@@ -97,20 +102,27 @@ fn shares_what_was_seen(pass: &mut LeasePass, seen: KeepId) -> Result<(), Fail>
 }
 
 // Keeps two words, reads the second and gives them up.
-fn keeps_two_words<R: Wait>(rt: &R, pass: &mut LeasePass, word: u64) -> Result<(), Fail>
+fn keeps_two_words<R: Wait>(rt: &R, pass: &mut LeasePass, word: u64) -> Result<(), Wrong>
     requires room { 0 < (model_of pass.old).room }
     requires nothing { HoldsNothing (model_of pass.old) }
     ensures { OnOk result (IsSpare (model_of pass.old) (model_of pass.new)) }
 {
-    let id = pass.keep(rt, [0, word].as_slice())?;
+    let id = pass
+        .keep(rt, [0, word].as_slice())
+        .map_err(|_| "want of memory")?;
     let read = pass.word(id, 1);
     pass.give_up(id);
-    expect(read, word)?;
+    same(read, word)?;
     Ok(())
 }
 
 // So many turns of a pass that begins with nothing and ends so.
-fn turns<R: Wait>(rt: &R, mut pass: LeasePass, seen: KeepId, count: u64) -> Result<LeasePass, Fail>
+fn turns<R: Wait>(
+    rt: &R,
+    mut pass: LeasePass,
+    seen: KeepId,
+    count: u64,
+) -> Result<LeasePass, Wrong>
     requires known { (model_of pass).known seen ≡ Some (7 ∷ []) }
     requires room { 0 < (model_of pass).room }
     requires nothing { HoldsNothing (model_of pass) }
@@ -129,7 +141,7 @@ fn two_at_once<R: Threads + Wait + Sync>(
     one: LeasePass,
     two: LeasePass,
     seen: KeepId,
-) -> Result<(LeasePass, LeasePass), Fail>
+) -> Result<(LeasePass, LeasePass), Wrong>
     requires known { ((model_of one).known seen ≡ Some (7 ∷ [])) × ((model_of two).known seen ≡ Some (7 ∷ [])) }
     requires room { (0 < (model_of one).room) × (0 < (model_of two).room) }
     requires nothing { HoldsNothing (model_of one) × HoldsNothing (model_of two) }
@@ -138,12 +150,12 @@ fn two_at_once<R: Threads + Wait + Sync>(
 {
     let (first, second) = join(
         rt,
-        move || -> Result<LeasePass, Fail>
-            requires { ((model_of one).known seen ≡ Some (7 ∷ [])) × (0 < (model_of one).room) × HoldsNothing (model_of one) }
+        move || -> Result<LeasePass, Wrong>
+            requires { IsSync R.row × ((model_of one).known seen ≡ Some (7 ∷ [])) × (0 < (model_of one).room) × HoldsNothing (model_of one) }
             ensures { IfOk result (λ after. IsSpare (model_of one) (model_of after)) }
         { turns(rt, one, seen, 200) },
-        move || -> Result<LeasePass, Fail>
-            requires { ((model_of two).known seen ≡ Some (7 ∷ [])) × (0 < (model_of two).room) × HoldsNothing (model_of two) }
+        move || -> Result<LeasePass, Wrong>
+            requires { IsSync R.row × ((model_of two).known seen ≡ Some (7 ∷ [])) × (0 < (model_of two).room) × HoldsNothing (model_of two) }
             ensures { IfOk result (λ after. IsSpare (model_of two) (model_of after)) }
         { turns(rt, two, seen, 200) },
     );
@@ -152,7 +164,18 @@ fn two_at_once<R: Threads + Wait + Sync>(
     Ok((first, second))
 }
 
-// Two blocks, and two threads that keep, share, give up and end. Then both blocks are free.
+// Keeps one word at once.
+fn keeps_at_once(pass: &mut LeasePass, word: u64) -> Result<(), Wrong>
+    requires { 0 < (model_of pass.old).room }
+    ensures { OnOk result ((model_of pass.new).room ≡ (model_of pass.old).room - 1) }
+{
+    match pass.try_keep([word].as_slice()) {
+        Try::Kept(_) => Ok(()),
+        Try::NotYet => Err("no block, where one is free"),
+    }
+}
+
+// Two blocks, and two threads that keep, share, give up and end. Then both blocks are free, and no more.
 fn two_blocks<R: Threads + Wait + Sync>(rt: &R, pass: &mut LeasePass) -> Result<(), Fail>
     requires { model_of pass.old ≡ opened (model_of pass.old).store 6 }
 {
@@ -163,8 +186,8 @@ fn two_blocks<R: Threads + Wait + Sync>(rt: &R, pass: &mut LeasePass) -> Result<
     let (one, two) = two_at_once(rt, one, two, seen)?;
     pass.join(one);
     pass.join(two);
-    expect_kept(pass.try_keep([1].as_slice()))?;
-    expect_kept(pass.try_keep([2].as_slice()))?;
+    keeps_at_once(pass, 1)?;
+    keeps_at_once(pass, 2)?;
     expect_not_yet(pass.try_keep([3].as_slice()))
 }
 
