@@ -1,5 +1,5 @@
 // A pass whose words stand in blocks that all passes of its store share.
-ghost use Rattle.std.specs.Prelude.{◌≡◌, ◌<◌, ◌≤◌, [], None, length, IfOk, IsOk, IsSome, OnErr, OnOk, MatchResult};
+ghost use Rattle.std.specs.Prelude.{◌≡◌, ◌<◌, ◌≤◌, [], None, Some, length, slice_get, IfOk, IsOk, IsSome, OnErr, OnOk, MatchResult};
 ghost use Rattle.std.specs.Arc.{arc_value};
 ghost use Rattle.cd_keep.specs.PassModel.{IsPiece};
 ghost use Rattle.cd_lease.specs.Seats.{IsAt};
@@ -165,7 +165,13 @@ impl Pass for LeasePass {
         }
     }
 
-    fn word(&mut self, id: KeepId, i: u32) -> u64 {
+    fn word(&mut self, id: KeepId, i: u32) -> u64
+        requires held { 0 < (model_of self.old).holds id }
+        requires within { i < length (words_of (model_of self.old) id) }
+        ensures word { slice_get (words_of (model_of self.old) id) i ≡ Some result }
+        ensures same { model_of self.new ≡ model_of self.old }
+        ensures view { view_of self.new ≡ view_of self.old }
+    {
         read(&self.table.shared, &mut self.seat, id, i as usize)
     }
 

@@ -1,5 +1,5 @@
 // Passes over one table of blocks, one after another and by many threads.
-ghost use Rattle.std.specs.Prelude.{◌≡◌, ◌-◌, ◌<◌, ◌∷◌, [], Some, IfOk, OnOk};
+ghost use Rattle.std.specs.Prelude.{◌≡◌, ◌-◌, ◌<◌, ◌∷◌, [], Some, IfOk, IsSome, OnOk};
 ghost use Rattle.std.specs.Thread.{IsSync};
 ghost use Rattle.cd_keep.specs.PassModel.{HoldsNothing, opened};
 ghost use Rattle.cd_lease.specs.Leases.{model_of};
@@ -25,10 +25,54 @@ fn expect_id(found: KeepId, block: u32, serial: u64) -> Result<(), Fail> {
     expect(found.serial, serial)
 }
 
-fn expect_not_yet(found: Try) -> Result<(), Fail> {
-    match found {
+// What went wrong. It may be let go, which a `Fail` may not.
+type Wrong = &'static str;
+
+fn same(found: u64, wanted: u64) -> Result<(), Wrong> {
+    if found == wanted {
+        Ok(())
+    } else {
+        Err("another word")
+    }
+}
+
+// No block is free for one word more.
+fn finds_none(pass: &mut LeasePass) -> Result<(), Wrong>
+    requires { 0 < (model_of pass.old).room }
+    ensures { OnOk result (model_of pass.new ≡ model_of pass.old) }
+{
+    match pass.try_keep([5].as_slice()) {
         Try::NotYet => Ok(()),
-        Try::Kept(_) => Err(Fail::new("a block that somebody holds")),
+        Try::Kept(_) => Err("a block that somebody holds"),
+    }
+}
+
+// What was seen under an id is gone: its block has another serial.
+fn is_gone(pass: &mut LeasePass, id: KeepId, found: u64) -> Result<(), Wrong>
+    requires known { IsSome ((model_of pass.old).known id) }
+    requires room { 0 < (model_of pass.old).room }
+    ensures { OnOk result ((model_of pass.new).room ≡ (model_of pass.old).room) }
+{
+    match pass.share(id) {
+        Ok(()) => Err("what is gone was shared"),
+        Err(note) => {
+            same(note.seen(), id.serial)?;
+            same(note.found(), found)?;
+            Ok(())
+        }
+    }
+}
+
+// Keeps a word at once, under this serial, and reads it.
+fn keeps_under(pass: &mut LeasePass, serial: u64, word: u64) -> Result<(), Fail>
+    requires { 0 < (model_of pass.old).room }
+{
+    match pass.try_keep([word].as_slice()) {
+        Try::NotYet => Err(Fail::new("no block, where one is free")),
+        Try::Kept(id) => {
+            expect_id(id, 0, serial)?;
+            expect(pass.word(id, 0), word)
+        }
     }
 }
 
@@ -40,42 +84,19 @@ fn one_block_three_keeps<R: Wait>(rt: &R, pass: &mut LeasePass) -> Result<(), Fa
     let first = pass.keep(rt, [1, 2].as_slice())?;
     expect_id(first, 0, 1)?;
     let mut other = pass.split(1)?;
-    expect_not_yet(other.try_keep([5].as_slice()))?;
+    finds_none(&mut other)?;
     pass.give_up(first);
     let second = pass.keep(rt, [3].as_slice())?;
     expect_id(second, 0, 2)?;
-    match other.share(first) {
-        Ok(()) => return Err(Fail::new("what is gone was shared")),
-        Err(note) => {
-            expect(note.seen(), 1)?;
-            expect(note.found(), 2)?;
-        }
-    }
+    is_gone(&mut other, first, 2)?;
     pass.give_up(second);
-    match other.try_keep([5].as_slice()) {
-        Try::NotYet => Err(Fail::new("no block, where one is free")),
-        Try::Kept(third) => {
-            expect_id(third, 0, 3)?;
-            expect(other.word(third, 0), 5)
-        }
-    }
+    keeps_under(&mut other, 3, 5)
 }
 
 #[test]
 fn a_block_is_taken_again_with_the_next_serial(rt: HostRuntime) -> Result<(), Fail> {
     let mut pass = LeasePass::open(rt.alloc(), 1, 3)?;
     one_block_three_keeps(&rt, &mut pass)
-}
-
-// What went wrong in a thread. It may be let go.
-type Wrong = &'static str;
-
-fn same(found: u64, wanted: u64) -> Result<(), Wrong> {
-    if found == wanted {
-        Ok(())
-    } else {
-        Err("another word")
-    }
 }
 
 // Shares what was seen, if it is still there, reads it and gives it up.
@@ -188,7 +209,8 @@ fn two_blocks<R: Threads + Wait + Sync>(rt: &R, pass: &mut LeasePass) -> Result<
     pass.join(two);
     keeps_at_once(pass, 1)?;
     keeps_at_once(pass, 2)?;
-    expect_not_yet(pass.try_keep([3].as_slice()))
+    finds_none(pass)?;
+    Ok(())
 }
 
 #[test]
