@@ -3,7 +3,7 @@ ghost use Rattle.std.specs.Prelude.{◌≡◌, ◌-◌, ◌<◌, ◌∷◌, [], 
 ghost use Rattle.std.specs.Thread.{IsSync};
 ghost use Rattle.cd_keep.specs.PassModel.{HoldsNothing, opened};
 ghost use Rattle.cd_lease.specs.Leases.{model_of};
-ghost use Rattle.cd_lease.specs.Turns.{IsSpare};
+ghost use Rattle.cd_lease.specs.Turns.{CanTurn, IsSpare};
 
 use crate::{LeasePass, Try};
 use cd_keep::{KeepId, Pass};
@@ -137,6 +137,17 @@ fn keeps_two_words<R: Wait>(rt: &R, pass: &mut LeasePass, word: u64) -> Result<(
     Ok(())
 }
 
+// Splits off a pass and takes it back.
+fn splits_and_takes_back(pass: &mut LeasePass) -> Result<(), Wrong>
+    requires room { 0 < (model_of pass.old).room }
+    requires nothing { HoldsNothing (model_of pass.old) }
+    ensures { OnOk result (IsSpare (model_of pass.old) (model_of pass.new)) }
+{
+    let child = pass.split(1).map_err(|_| "want of memory")?;
+    pass.join(child);
+    Ok(())
+}
+
 // So many turns of a pass that begins with nothing and ends so.
 fn turns<R: Wait>(
     rt: &R,
@@ -144,14 +155,13 @@ fn turns<R: Wait>(
     seen: KeepId,
     count: u64,
 ) -> Result<LeasePass, Wrong>
-    requires known { (model_of pass).known seen ≡ Some (7 ∷ []) }
-    requires room { 0 < (model_of pass).room }
-    requires nothing { HoldsNothing (model_of pass) }
+    requires { CanTurn (model_of pass) seen }
     ensures { IfOk result (λ after. IsSpare (model_of pass) (model_of after)) }
 {
     for turn in 0..count {
         shares_what_was_seen(&mut pass, seen)?;
         keeps_two_words(rt, &mut pass, turn)?;
+        splits_and_takes_back(&mut pass)?;
     }
     Ok(pass)
 }
@@ -163,20 +173,19 @@ fn two_at_once<R: Threads + Wait + Sync>(
     two: LeasePass,
     seen: KeepId,
 ) -> Result<(LeasePass, LeasePass), Wrong>
-    requires known { ((model_of one).known seen ≡ Some (7 ∷ [])) × ((model_of two).known seen ≡ Some (7 ∷ [])) }
-    requires room { (0 < (model_of one).room) × (0 < (model_of two).room) }
-    requires nothing { HoldsNothing (model_of one) × HoldsNothing (model_of two) }
+    requires one { CanTurn (model_of one) seen }
+    requires two { CanTurn (model_of two) seen }
     ensures one { IfOk result (λ both. IsSpare (model_of one) (model_of both.0)) }
     ensures two { IfOk result (λ both. IsSpare (model_of two) (model_of both.1)) }
 {
     let (first, second) = join(
         rt,
         move || -> Result<LeasePass, Wrong>
-            requires { IsSync R.row × ((model_of one).known seen ≡ Some (7 ∷ [])) × (0 < (model_of one).room) × HoldsNothing (model_of one) }
+            requires { IsSync R.row × CanTurn (model_of one) seen }
             ensures { IfOk result (λ after. IsSpare (model_of one) (model_of after)) }
         { turns(rt, one, seen, 200) },
         move || -> Result<LeasePass, Wrong>
-            requires { IsSync R.row × ((model_of two).known seen ≡ Some (7 ∷ [])) × (0 < (model_of two).room) × HoldsNothing (model_of two) }
+            requires { IsSync R.row × CanTurn (model_of two) seen }
             ensures { IfOk result (λ after. IsSpare (model_of two) (model_of after)) }
         { turns(rt, two, seen, 200) },
     );
@@ -196,17 +205,33 @@ fn keeps_at_once(pass: &mut LeasePass, word: u64) -> Result<(), Wrong>
     }
 }
 
-// Two blocks, and two threads that keep, share, give up and end. Then both blocks are free, and no more.
+// Two blocks, and four threads that keep, share, split, give up and end. Then both blocks are free, and no more.
 fn two_blocks<R: Threads + Wait + Sync>(rt: &R, pass: &mut LeasePass) -> Result<(), Fail>
-    requires { model_of pass.old ≡ opened (model_of pass.old).store 6 }
+    requires { model_of pass.old ≡ opened (model_of pass.old).store 8 }
 {
     let seen = pass.keep(rt, [7].as_slice())?;
-    let one = pass.split(2)?;
-    let two = pass.split(2)?;
+    let one = pass.split(1)?;
+    let two = pass.split(1)?;
+    let three = pass.split(1)?;
+    let four = pass.split(1)?;
     pass.give_up(seen);
-    let (one, two) = two_at_once(rt, one, two, seen)?;
+    let (first, second) = join(
+        rt,
+        move || -> Result<(LeasePass, LeasePass), Wrong>
+            requires { IsSync R.row × CanTurn (model_of one) seen × CanTurn (model_of two) seen }
+            ensures { IfOk result (λ both. IsSpare (model_of one) (model_of both.0) × IsSpare (model_of two) (model_of both.1)) }
+        { two_at_once(rt, one, two, seen) },
+        move || -> Result<(LeasePass, LeasePass), Wrong>
+            requires { IsSync R.row × CanTurn (model_of three) seen × CanTurn (model_of four) seen }
+            ensures { IfOk result (λ both. IsSpare (model_of three) (model_of both.0) × IsSpare (model_of four) (model_of both.1)) }
+        { two_at_once(rt, three, four, seen) },
+    );
+    let (one, two) = first?;
+    let (three, four) = second?;
     pass.join(one);
     pass.join(two);
+    pass.join(three);
+    pass.join(four);
     keeps_at_once(pass, 1)?;
     keeps_at_once(pass, 2)?;
     finds_none(pass)?;
@@ -215,6 +240,6 @@ fn two_blocks<R: Threads + Wait + Sync>(rt: &R, pass: &mut LeasePass) -> Result<
 
 #[test]
 fn threads_keep_in_few_blocks_and_leave_them_free(rt: HostRuntime) -> Result<(), Fail> {
-    let mut pass = LeasePass::open(rt.alloc(), 2, 6)?;
+    let mut pass = LeasePass::open(rt.alloc(), 2, 8)?;
     two_blocks(&rt, &mut pass)
 }
