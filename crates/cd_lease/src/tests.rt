@@ -143,9 +143,13 @@ fn splits_and_takes_back(pass: &mut LeasePass) -> Result<(), Wrong>
     requires nothing { HoldsNothing (model_of pass.old) }
     ensures { OnOk result (IsSpare (model_of pass.old) (model_of pass.new)) }
 {
-    let child = pass.split(1).map_err(|_| "want of memory")?;
-    pass.join(child);
-    Ok(())
+    match pass.split(1) {
+        Ok(child) => {
+            pass.join(child);
+            Ok(())
+        }
+        Err(_) => Err("want of memory"),
+    }
 }
 
 // So many turns of a pass that begins with nothing and ends so.
@@ -205,16 +209,24 @@ fn keeps_at_once(pass: &mut LeasePass, word: u64) -> Result<(), Wrong>
     }
 }
 
-// Two blocks, and four threads that keep, share, split, give up and end. Then both blocks are free, and no more.
-fn two_blocks<R: Threads + Wait + Sync>(rt: &R, pass: &mut LeasePass) -> Result<(), Fail>
-    requires { model_of pass.old ≡ opened (model_of pass.old).store 8 }
+// Four passes at the same time.
+fn four_at_once<R: Threads + Wait + Sync>(
+    rt: &R,
+    one: LeasePass,
+    two: LeasePass,
+    three: LeasePass,
+    four: LeasePass,
+    seen: KeepId,
+) -> Result<(LeasePass, LeasePass, LeasePass, LeasePass), Wrong>
+    requires one { CanTurn (model_of one) seen }
+    requires two { CanTurn (model_of two) seen }
+    requires three { CanTurn (model_of three) seen }
+    requires four { CanTurn (model_of four) seen }
+    ensures one { IfOk result (λ all. IsSpare (model_of one) (model_of all.0)) }
+    ensures two { IfOk result (λ all. IsSpare (model_of two) (model_of all.1)) }
+    ensures three { IfOk result (λ all. IsSpare (model_of three) (model_of all.2)) }
+    ensures four { IfOk result (λ all. IsSpare (model_of four) (model_of all.3)) }
 {
-    let seen = pass.keep(rt, [7].as_slice())?;
-    let one = pass.split(1)?;
-    let two = pass.split(1)?;
-    let three = pass.split(1)?;
-    let four = pass.split(1)?;
-    pass.give_up(seen);
     let (first, second) = join(
         rt,
         move || -> Result<(LeasePass, LeasePass), Wrong>
@@ -228,6 +240,20 @@ fn two_blocks<R: Threads + Wait + Sync>(rt: &R, pass: &mut LeasePass) -> Result<
     );
     let (one, two) = first?;
     let (three, four) = second?;
+    Ok((one, two, three, four))
+}
+
+// Two blocks, and four threads that keep, share, split, give up and end. Then both blocks are free, and no more.
+fn two_blocks<R: Threads + Wait + Sync>(rt: &R, pass: &mut LeasePass) -> Result<(), Fail>
+    requires { model_of pass.old ≡ opened (model_of pass.old).store 8 }
+{
+    let seen = pass.keep(rt, [7].as_slice())?;
+    let one = pass.split(1)?;
+    let two = pass.split(1)?;
+    let three = pass.split(1)?;
+    let four = pass.split(1)?;
+    pass.give_up(seen);
+    let (one, two, three, four) = four_at_once(rt, one, two, three, four, seen)?;
     pass.join(one);
     pass.join(two);
     pass.join(three);
