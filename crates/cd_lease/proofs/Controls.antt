@@ -29,10 +29,10 @@ module _ (size : Size) (s : St) (r : Leased size s) (id : ℕ) (v : View) (at : 
         → (d : ℕ) → users_in (set s.words (control_at b) n) d + uses_in d v ≡ users_in s.words d + uses_in d w
     counts_stay here other d = ⊎_elim
         (λ (q : d ≡ b). subst (λ (x : ℕ). users_in (set s.words (control_at b) n) x + uses_in x v ≡ users_in s.words x + uses_in x w) (sym q)
-            (ap (λ (m : ℕ). users_of m + uses_in b v) (control_now s.words b n within_words) ∙ here))
+        (ap (λ (m : ℕ). users_of m + uses_in b v) (control_now s.words b n within_words) ∙ here))
         (λ ne.
-            let e : uses_in d w ≡ uses_in d v = other d ne in
-            ap (λ (m : ℕ). users_of m + uses_in d v) (control_else s.words b n d ne) ∙ ap (λ (m : ℕ). users_in s.words d + m) (sym e))
+        let e : uses_in d w ≡ uses_in d v = other d ne in
+        ap (λ (m : ℕ). users_of m + uses_in d v) (control_else s.words b n d ne) ∙ ap (λ (m : ℕ). users_in s.words d + m) (sym e))
         (cases_eq d b)
 
     pub control_kept : serial_of n ≡ serial_in s.words b
@@ -46,15 +46,15 @@ module _ (size : Size) (s : St) (r : Leased size s) (id : ℕ) (v : View) (at : 
     control_kept serial spends here other fills holds mine =
         let vs : List ℕ = set s.words (control_at b) n in
         let change : (u : View) (d : ℕ) → Change s.words vs (fillers s.views) (fillers (set s.views id w)) u d = λ u d. stays
-            (serials_stay s.words b n within_words serial d)
-            (fillers_stay size s r id v w at d (fills d))
-            (λ i k. words_stay s.words b n d i k) in
+        (serials_stay s.words b n within_words serial d)
+        (fillers_stay size s r id v w at d (fills d))
+        (λ i k. words_stay s.words b n d i k) in
         step_kept size s r id v w at (control_at b) n c
-            spends
-            (λ d k. counts_stay here other d)
-            (λ d k. alone_still size s r id v w at d (fills d) (holds d) k)
-            (mine (stands_on size.blocks s.words vs (fillers s.views) (fillers (set s.views id w)) v (r.each id v at) (λ d k. change v d)))
-            (λ k u ne e d l. change u d)
+        spends
+        (λ d k. counts_stay here other d)
+        (λ d k. alone_still size s r id v w at d (fills d) (holds d) k)
+        (mine (stands_on size.blocks s.words vs (fillers s.views) (fillers (set s.views id w)) v (r.each id v at) (λ d k. change v d)))
+        (λ k u ne e d l. change u d)
 
   -- the word stays, and the view has met some words
   pub met_kept : (ls : List Look) (b : ℕ) → b < size.blocks → (c : List (ℕ × Unit {0}))
@@ -75,19 +75,19 @@ module _ (size : Size) (s : St) (r : Leased size s) (id : ℕ) (v : View) (at : 
   left_kept p h held n serial users c =
       let out : (d : ℕ) → ids_of d (one_out p v.holds) + one_if (p.block == d) ≡ ids_of d v.holds = λ d. ids_one_out v.holds p d held in
       control_kept (leaving v p) p.block n h c
-          serial
-          (let l = length_one_out v.holds p held in omega arith)
-          (let o = out p.block in let one : one_if (p.block == p.block) ≡ 1 = one_at p.block p.block refl in omega arith)
-          (λ d ne. let o = out d in let none : one_if (p.block == d) ≡ 0 = one_off p.block d (λ e. ne (sym e)) in omega arith)
-          (λ d. refl)
-          (λ d k. let o = out d in omega arith)
-          (λ is. record {
-            held = λ q k. is.held q (let f = times_fewer v.holds p q held in omega arith);
-            seen = is.seen;
-            filled = is.filled;
-            missed = is.missed;
-            tried = let t : one_there v.trying ≤ v.room = is.tried in omega arith;
-          })
+      serial
+      (let l = length_one_out v.holds p held in omega arith)
+      (let o = out p.block in let one : one_if (p.block == p.block) ≡ 1 = one_at p.block p.block refl in omega arith)
+      (λ d ne. let o = out d in let none : one_if (p.block == d) ≡ 0 = one_off p.block d (λ e. ne (sym e)) in omega arith)
+      (λ d. refl)
+      (λ d k. let o = out d in omega arith)
+      (λ is. record {
+        held = λ q k. is.held q (let f = times_fewer v.holds p q held in omega arith);
+        seen = is.seen;
+        filled = is.filled;
+        missed = is.missed;
+        tried = let t : one_there v.trying ≤ v.room = is.tried in omega arith;
+      })
 
   -- a known id whose serial is the control word's is held once more
   pub shared_kept : (p : KeepId) → p.block < size.blocks → IsSome (words_under v.known p) → 0 < v.room → v.trying ≡ None
@@ -97,28 +97,28 @@ module _ (size : Size) (s : St) (r : Leased size s) (id : ℕ) (v : View) (at : 
   shared_kept p h known room idle same unfilled n serial users c =
       let none : one_there v.trying ≡ 0 = ap one_there idle in
       control_kept (sharing v p) p.block n h c
-          serial
-          (omega arith)
-          (let one : one_if (p.block == p.block) ≡ 1 = one_at p.block p.block refl in omega arith)
-          (λ d ne. let off : one_if (p.block == d) ≡ 0 = one_off p.block d (λ e. ne (sym e)) in omega arith)
-          (λ d. refl)
-          (λ d k. ⊎_elim
-              (λ (e : d ≡ p.block). absurd (let f : fillers s.views d ≡ 0 = ap (fillers s.views) e ∙ unfilled in omega arith))
-              (λ ne. let off : one_if (p.block == d) ≡ 0 = one_off p.block d (λ e. ne (sym e)) in omega arith)
-              (cases_eq d p.block))
-          (λ is. record {
-            held = λ q k. times_cases p q v.holds k
-                (λ e. subst (λ (x : KeepId). IsHeld size.blocks (set s.words (control_at p.block) n) v.known x) e (record {
-                  block = h;
-                  serial = serials_stay s.words p.block n (within_words (sharing v p) p.block n h c) serial p.block ∙ sym same;
-                  there = known;
-                }))
-                (λ more. is.held q more);
-            seen = is.seen;
-            filled = is.filled;
-            missed = is.missed;
-            tried = omega arith;
-          })
+      serial
+      (omega arith)
+      (let one : one_if (p.block == p.block) ≡ 1 = one_at p.block p.block refl in omega arith)
+      (λ d ne. let off : one_if (p.block == d) ≡ 0 = one_off p.block d (λ e. ne (sym e)) in omega arith)
+      (λ d. refl)
+      (λ d k. ⊎_elim
+      (λ (e : d ≡ p.block). absurd (let f : fillers s.views d ≡ 0 = ap (fillers s.views) e ∙ unfilled in omega arith))
+      (λ ne. let off : one_if (p.block == d) ≡ 0 = one_off p.block d (λ e. ne (sym e)) in omega arith)
+      (cases_eq d p.block))
+      (λ is. record {
+        held = λ q k. times_cases p q v.holds k
+            (λ e. subst (λ (x : KeepId). IsHeld size.blocks (set s.words (control_at p.block) n) v.known x) e (record {
+              block = h;
+              serial = serials_stay s.words p.block n (within_words (sharing v p) p.block n h c) serial p.block ∙ sym same;
+              there = known;
+            }))
+            (λ more. is.held q more);
+        seen = is.seen;
+        filled = is.filled;
+        missed = is.missed;
+        tried = omega arith;
+      })
 
   missed_last : (ws : List ℕ) (gs : List Miss) (g : Miss) → AllMissed size.blocks ws gs → IsMissed size.blocks ws g → AllMissed size.blocks ws (gs ++ g ∷ [])
   missed_last ws [] g all one = (one, tt)
@@ -132,23 +132,23 @@ module _ (size : Size) (s : St) (r : Leased size s) (id : ℕ) (v : View) (at : 
       let w : View = missing v p (serial_in s.words p.block) in
       let tries : (d : ℕ) → tries_of d v.trying ≡ 0 = λ d. ap (tries_of d) idle in
       control_kept w p.block n h c
-          serial
-          (le_refl (spent_by v))
-          (let t = tries p.block in let one : one_if (p.block == p.block) ≡ 1 = one_at p.block p.block refl in omega arith)
-          (λ d ne. let t = tries d in let off : one_if (p.block == d) ≡ 0 = one_off p.block d (λ e. ne (sym e)) in omega arith)
-          (λ d. refl)
-          (λ d k. le_refl (holds_in d v))
-          (λ is. record {
-            held = is.held;
-            seen = is.seen;
-            filled = is.filled;
-            missed = missed_last (set s.words (control_at p.block) n) v.gone (miss_of p (serial_in s.words p.block)) is.missed (record {
-              block = h;
-              rose = past;
-              past = le_of_eq (sym (serials_stay s.words p.block n (within_words w p.block n h c) serial p.block));
-            });
-            tried = room;
-          })
+      serial
+      (le_refl (spent_by v))
+      (let t = tries p.block in let one : one_if (p.block == p.block) ≡ 1 = one_at p.block p.block refl in omega arith)
+      (λ d ne. let t = tries d in let off : one_if (p.block == d) ≡ 0 = one_off p.block d (λ e. ne (sym e)) in omega arith)
+      (λ d. refl)
+      (λ d k. le_refl (holds_in d v))
+      (λ is. record {
+        held = is.held;
+        seen = is.seen;
+        filled = is.filled;
+        missed = missed_last (set s.words (control_at p.block) n) v.gone (miss_of p (serial_in s.words p.block)) is.missed (record {
+          block = h;
+          rose = past;
+          past = le_of_eq (sym (serials_stay s.words p.block n (within_words w p.block n h c) serial p.block));
+        });
+        tried = room;
+      })
 
   -- a try of b ends
   pub returned_kept : (b : ℕ) → b < size.blocks → v.trying ≡ Some b
@@ -157,13 +157,13 @@ module _ (size : Size) (s : St) (r : Leased size s) (id : ℕ) (v : View) (at : 
   returned_kept b h tries n serial users c =
       let tried : (d : ℕ) → tries_of d v.trying ≡ one_if (b == d) = λ d. ap (tries_of d) tries in
       control_kept (giving_back v) b n h c
-          serial
-          (le_refl (spent_by v))
-          (let t = tried b in let one : one_if (b == b) ≡ 1 = one_at b b refl in omega arith)
-          (λ d ne. let t = tried d in let off : one_if (b == d) ≡ 0 = one_off b d (λ e. ne (sym e)) in omega arith)
-          (λ d. refl)
-          (λ d k. le_refl (holds_in d v))
-          (λ is. record { held = is.held; seen = is.seen; filled = is.filled; missed = is.missed; tried = omega arith })
+      serial
+      (le_refl (spent_by v))
+      (let t = tried b in let one : one_if (b == b) ≡ 1 = one_at b b refl in omega arith)
+      (λ d ne. let t = tried d in let off : one_if (b == d) ≡ 0 = one_off b d (λ e. ne (sym e)) in omega arith)
+      (λ d. refl)
+      (λ d k. le_refl (holds_in d v))
+      (λ is. record { held = is.held; seen = is.seen; filled = is.filled; missed = is.missed; tried = omega arith })
 
 -- ---- what the table asks of each step
 
@@ -199,10 +199,10 @@ module _ (size : Size) (slots id : ℕ) (me : Sat) where
       let counted : users_of n ≡ total (uses_in p.block) s.views = r.counted p.block h in
       let after = one_less_of n small (omega arith) in
       let same_id_as : (q : KeepId) → 0 < times me.0.holds q → control_at p.block ≡ control_at q.block → p ≡ q = λ q k e.
-          let b : p.block ≡ q.block = block_from p.block q.block e in
-          let mine : serial_in s.words p.block ≡ p.serial = (stands.held p held).serial in
-          let theirs : serial_in s.words q.block ≡ q.serial = (stands.held q k).serial in
-          id_from p q b (sym mine ∙ (ap (serial_in s.words) b ∙ theirs)) in (
+      let b : p.block ≡ q.block = block_from p.block q.block e in
+      let mine : serial_in s.words p.block ≡ p.serial = (stands.held p held).serial in
+      let theirs : serial_in s.words q.block ≡ q.serial = (stands.held q k).serial in
+      id_from p q b (sym mine ∙ (ap (serial_in s.words) b ∙ theirs)) in (
         leaving me.0 p,
         keeps,
         tt,
@@ -219,22 +219,22 @@ module _ (size : Size) (slots id : ℕ) (me : Sat) where
       let before : p.serial ≤ serial_of n = is.past in
       let after = one_more_of n small (few_users size s r p.block h) in
       ⊎_elim
-          (λ (e : serial_of n ≡ p.serial). (
-            sharing me.0 p,
-            keeps,
-            tt,
-            shared_kept size s r id me.0 at p h known room idle (sym e) (is.alone (sym e)) ((n + 1) % 2 ^ 64) after.0 after.1 me.1,
-            ((λ q. refl), λ ne. absurd (ne e)),
-          ))
-          (λ ne.
-              let past : p.serial < serial_of n = omega arith in (
-                missing me.0 p (serial_of n),
-                keeps,
-                tt,
-                missed_kept size s r id me.0 at p h room idle past ((n + 1) % 2 ^ 64) after.0 after.1 me.1,
-                ((λ e. absurd (ne e)), λ q. (past, refl)),
-              ))
-          (cases_eq (serial_of n) p.serial)
+      (λ (e : serial_of n ≡ p.serial). (
+        sharing me.0 p,
+        keeps,
+        tt,
+        shared_kept size s r id me.0 at p h known room idle (sym e) (is.alone (sym e)) ((n + 1) % 2 ^ 64) after.0 after.1 me.1,
+        ((λ q. refl), λ ne. absurd (ne e)),
+      ))
+      (λ ne.
+      let past : p.serial < serial_of n = omega arith in (
+        missing me.0 p (serial_of n),
+        keeps,
+        tt,
+        missed_kept size s r id me.0 at p h room idle past ((n + 1) % 2 ^ 64) after.0 after.1 me.1,
+        ((λ e. absurd (ne e)), λ q. (past, refl)),
+      ))
+      (cases_eq (serial_of n) p.serial)
 
   pub returns_allows : (b : ℕ) → b < size.blocks → me.0.trying ≡ Some b
       → Allows (Leased size) slots id me (control_at b) (λ n. (n + (2 ^ 64 - 1)) % 2 ^ 64) (Returns (step slots (control_at b) 1 0 none) me)

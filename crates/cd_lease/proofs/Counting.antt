@@ -54,9 +54,9 @@ held_in_block [] id h = absurd (omega arith)
 held_in_block (p ∷ ps) id h = by_test (same_id p id)
     (λ e. let one : one_if (p.block == id.block) ≡ 1 = ap one_if (and_parts (p.block == id.block) (p.serial == id.serial) e).0 in omega arith)
     (λ e.
-        let less : 0 < times ps id = subst (λ (n : ℕ). 0 < n) (cond-false (same_id p id) (times ps id + 1) (times ps id) e) h in
-        let r : 0 < ids_of id.block ps = held_in_block ps id less in
-        omega arith)
+    let less : 0 < times ps id = subst (λ (n : ℕ). 0 < n) (cond-false (same_id p id) (times ps id + 1) (times ps id) e) h in
+    let r : 0 < ids_of id.block ps = held_in_block ps id less in
+    omega arith)
 
 pub ids_most : (b : ℕ) (ps : List KeepId) → ids_of b ps ≤ length ps
 ids_most b [] = lit≤ tt
@@ -88,14 +88,14 @@ pub times_one_out : (ps : List KeepId) (id q : KeepId) → 0 < times ps id → t
 times_one_out [] id q h = absurd (omega arith)
 times_one_out (p ∷ ps) id q h = by_test (same_id p id)
     (λ e.
-        let first : same_id p q ≡ same_id id q = ap (λ (r : KeepId). same_id r q) (same_ids p id e) in
-        ap (λ (l : List KeepId). times l q) (cond-true (same_id p id) ps (p ∷ one_out id ps) e)
-        ∙ subst (λ (t : Bool). times ps q ≡ cond (same_id id q) (cond t (times ps q + 1) (times ps q) - 1) (cond t (times ps q + 1) (times ps q))) (sym first)
-            (out_here (same_id id q) (times ps q)))
+    let first : same_id p q ≡ same_id id q = ap (λ (r : KeepId). same_id r q) (same_ids p id e) in
+    ap (λ (l : List KeepId). times l q) (cond-true (same_id p id) ps (p ∷ one_out id ps) e)
+    ∙ subst (λ (t : Bool). times ps q ≡ cond (same_id id q) (cond t (times ps q + 1) (times ps q) - 1) (cond t (times ps q + 1) (times ps q))) (sym first)
+    (out_here (same_id id q) (times ps q)))
     (λ e.
-        ap (λ (l : List KeepId). times l q) (cond-false (same_id p id) ps (p ∷ one_out id ps) e)
-        ∙ out_there (same_id p q) (same_id id q) (times (one_out id ps) q) (times ps q) (times_one_out ps id q (rest_held p id ps e h))
-            (λ t. ap (λ (r : KeepId). same_id p r) (sym (same_ids id q t)) ∙ e))
+    ap (λ (l : List KeepId). times l q) (cond-false (same_id p id) ps (p ∷ one_out id ps) e)
+    ∙ out_there (same_id p q) (same_id id q) (times (one_out id ps) q) (times ps q) (times_one_out ps id q (rest_held p id ps e h))
+    (λ t. ap (λ (r : KeepId). same_id p r) (sym (same_ids id q t)) ∙ e))
 
 fewer : (t : Bool) (n : ℕ) → cond t (n - 1) n ≤ n
 fewer true n = omega arith
@@ -109,21 +109,21 @@ length_one_out [] id h = absurd (omega arith)
 length_one_out (p ∷ ps) id h = by_test (same_id p id)
     (λ e. let r = ap length (cond-true (same_id p id) ps (p ∷ one_out id ps) e) in omega arith)
     (λ e.
-        let r = ap length (cond-false (same_id p id) ps (p ∷ one_out id ps) e) in
-        let s = length_one_out ps id (rest_held p id ps e h) in
-        omega arith)
+    let r = ap length (cond-false (same_id p id) ps (p ∷ one_out id ps) e) in
+    let s = length_one_out ps id (rest_held p id ps e h) in
+    omega arith)
 
 pub ids_one_out : (ps : List KeepId) (id : KeepId) (b : ℕ) → 0 < times ps id → ids_of b (one_out id ps) + one_if (id.block == b) ≡ ids_of b ps
 ids_one_out [] id b h = absurd (omega arith)
 ids_one_out (p ∷ ps) id b h = by_test (same_id p id)
     (λ e.
-        let r : ids_of b (one_out id (p ∷ ps)) ≡ ids_of b ps = ap (ids_of b) (cond-true (same_id p id) ps (p ∷ one_out id ps) e) in
-        let o : one_if (p.block == b) ≡ one_if (id.block == b) = ap (λ (q : KeepId). one_if (q.block == b)) (same_ids p id e) in
-        omega arith)
+    let r : ids_of b (one_out id (p ∷ ps)) ≡ ids_of b ps = ap (ids_of b) (cond-true (same_id p id) ps (p ∷ one_out id ps) e) in
+    let o : one_if (p.block == b) ≡ one_if (id.block == b) = ap (λ (q : KeepId). one_if (q.block == b)) (same_ids p id e) in
+    omega arith)
     (λ e.
-        let r : ids_of b (one_out id (p ∷ ps)) ≡ one_if (p.block == b) + ids_of b (one_out id ps) = ap (ids_of b) (cond-false (same_id p id) ps (p ∷ one_out id ps) e) in
-        let s : ids_of b (one_out id ps) + one_if (id.block == b) ≡ ids_of b ps = ids_one_out ps id b (rest_held p id ps e h) in
-        omega arith)
+    let r : ids_of b (one_out id (p ∷ ps)) ≡ one_if (p.block == b) + ids_of b (one_out id ps) = ap (ids_of b) (cond-false (same_id p id) ps (p ∷ one_out id ps) e) in
+    let s : ids_of b (one_out id ps) + one_if (id.block == b) ≡ ids_of b ps = ids_one_out ps id b (rest_held p id ps e h) in
+    omega arith)
 
 -- ---- what is filled
 

@@ -75,8 +75,8 @@ module _ (size : Size) (s : St) (r : Leased size s) (id : ℕ) (v : View) (at : 
     each = λ j k. ⊎_elim
         (λ (e : j ≡ i). ap (word_in vs b) e ∙ (word_now s.words b n i filled_now.short in_words ∙ (sym (get_or_push p.words n 0 i refl) ∙ ap (λ (x : ℕ). get_or (p.words ++ n ∷ []) x 0) (sym e))))
         (λ ne.
-            let before : j < i = let l : length (p.words ++ n ∷ []) ≡ length p.words + 1 = length_push p.words n in omega arith in
-            words_before s.words b n i filled_now.short j before ∙ (filled_now.begins.each j before ∙ sym (get_or_append_left p.words (n ∷ []) 0 j before)))
+        let before : j < i = let l : length (p.words ++ n ∷ []) ≡ length p.words + 1 = length_push p.words n in omega arith in
+        words_before s.words b n i filled_now.short j before ∙ (filled_now.begins.each j before ∙ sym (get_or_append_left p.words (n ∷ []) 0 j before)))
         (cases_eq j i);
   }
 
@@ -105,22 +105,22 @@ module _ (size : Size) (s : St) (r : Leased size s) (id : ℕ) (v : View) (at : 
       let other : (d : ℕ) → d ≢ b → now d ≡ fillers s.views d = λ d ne. fillers_stay size s r id v w at d (same d) in
       let mine = bare_now now other in
       step_kept size s r id v w at (word_at b i) n c
-          (let one : one_there v.filling ≡ 1 = ap one_there fill in omega arith)
-          (λ d k. let u = users d in let f = same d in omega arith)
-          (λ d k. alone_still size s r id v w at d (same d) (λ m. le_refl (holds_in d v)) k)
-          (record {
-            held = mine.held;
-            seen = mine.seen;
-            filled = λ q e. subst (λ (x : Piece). IsFilled size.blocks vs x) (inside (longer p n) q e) (record {
-              block = filled_now.block;
-              short = let l : length (p.words ++ n ∷ []) ≡ length p.words + 1 = length_push p.words n in omega arith;
-              serial = serials b ∙ filled_now.serial;
-              begins = begins_longer;
-            });
-            missed = mine.missed;
-            tried = mine.tried;
-          })
-          (λ k u ne e d l. change now other u (not_held k u e) (not_filled k u ne e) d)
+      (let one : one_there v.filling ≡ 1 = ap one_there fill in omega arith)
+      (λ d k. let u = users d in let f = same d in omega arith)
+      (λ d k. alone_still size s r id v w at d (same d) (λ m. le_refl (holds_in d v)) k)
+      (record {
+        held = mine.held;
+        seen = mine.seen;
+        filled = λ q e. subst (λ (x : Piece). IsFilled size.blocks vs x) (inside (longer p n) q e) (record {
+          block = filled_now.block;
+          short = let l : length (p.words ++ n ∷ []) ≡ length p.words + 1 = length_push p.words n in omega arith;
+          serial = serials b ∙ filled_now.serial;
+          begins = begins_longer;
+        });
+        missed = mine.missed;
+        tried = mine.tried;
+      })
+      (λ k u ne e d l. change now other u (not_held k u e) (not_filled k u ne e) d)
 
   pub ended_kept : (c : List (ℕ × Unit {0})) → Leased size (stepped s (word_at b i) n id c (holding v (longer p n)) keeps)
   ended_kept c =
@@ -128,12 +128,12 @@ module _ (size : Size) (s : St) (r : Leased size s) (id : ℕ) (v : View) (at : 
       let now : ℕ → ℕ = fillers (set s.views id w) in
       let fills : (d : ℕ) → fills_in d v ≡ one_if (b == d) = λ d. ap (fills_of d) fill in
       let other : (d : ℕ) → d ≢ b → now d ≡ fillers s.views d = λ d ne.
-          fillers_stay size s r id v w at d (sym (fills d ∙ one_off b d (λ e. ne (sym e)))) in
+      fillers_stay size s r id v w at d (sym (fills d ∙ one_off b d (λ e. ne (sym e)))) in
       let none_now : now b ≡ 0 =
-          let t = total_set (fills_in b) s.views id v w at in
-          let f = fills_one in
-          let one : fillers s.views b ≡ 1 = is_alone.one in
-          omega arith in
+      let t = total_set (fills_in b) s.views id v w at in
+      let f = fills_one in
+      let one : fillers s.views b ≡ 1 = is_alone.one in
+      omega arith in
       let mine = bare_now now other in
       let held_now : IsHeld size.blocks vs w.known p.id = record {
         block = filled_now.block;
@@ -148,33 +148,33 @@ module _ (size : Size) (s : St) (r : Leased size s) (id : ℕ) (v : View) (at : 
         begins = λ e. begins_longer;
       } in
       step_kept size s r id v w at (word_at b i) n c
-          (let one : one_there v.filling ≡ 1 = ap one_there fill in omega arith)
-          (λ d k. let u = users d in let f = fills d in omega arith)
-          (λ d k. ⊎_elim
-              (λ (e : d ≡ b). absurd (let z : now d ≡ 0 = ap now e ∙ none_now in omega arith))
-              (λ ne.
-                  let off : one_if (b == d) ≡ 0 = one_off b d (λ e. ne (sym e)) in
-                  alone_still size s r id v w at d (sym (fills d ∙ off)) (λ m. let o = off in omega arith) k)
-              (cases_eq d b))
-          (record {
-            held = λ q k. times_cases p.id q v.holds k
-                (λ e. subst (λ (x : KeepId). IsHeld size.blocks vs w.known x) e held_now)
-                (λ more.
-                    let is = mine.held q more in
-                    record { block = is.block; serial = is.serial; there = known_still (longer p n) v.known q is.there });
-            seen = λ q piece e. words_cases (longer p n) v.known q piece e
-                (λ x y. subst (λ (z : KeepId). IsKnown size.blocks vs now z piece) x (subst (λ (z : List ℕ). IsKnown size.blocks vs now p.id z) y known_now))
-                (λ rest. mine.seen q piece rest);
-            filled = λ q e. absurd (not_some q e);
-            missed = mine.missed;
-            tried = mine.tried;
-          })
-          (λ k u ne e d l. change now other u (not_held k u e) (not_filled k u ne e) d)
+      (let one : one_there v.filling ≡ 1 = ap one_there fill in omega arith)
+      (λ d k. let u = users d in let f = fills d in omega arith)
+      (λ d k. ⊎_elim
+      (λ (e : d ≡ b). absurd (let z : now d ≡ 0 = ap now e ∙ none_now in omega arith))
+      (λ ne.
+      let off : one_if (b == d) ≡ 0 = one_off b d (λ e. ne (sym e)) in
+      alone_still size s r id v w at d (sym (fills d ∙ off)) (λ m. let o = off in omega arith) k)
+      (cases_eq d b))
+      (record {
+        held = λ q k. times_cases p.id q v.holds k
+            (λ e. subst (λ (x : KeepId). IsHeld size.blocks vs w.known x) e held_now)
+            (λ more.
+            let is = mine.held q more in
+            record { block = is.block; serial = is.serial; there = known_still (longer p n) v.known q is.there });
+        seen = λ q piece e. words_cases (longer p n) v.known q piece e
+            (λ x y. subst (λ (z : KeepId). IsKnown size.blocks vs now z piece) x (subst (λ (z : List ℕ). IsKnown size.blocks vs now p.id z) y known_now))
+            (λ rest. mine.seen q piece rest);
+        filled = λ q e. absurd (not_some q e);
+        missed = mine.missed;
+        tried = mine.tried;
+      })
+      (λ k u ne e d l. change now other u (not_held k u e) (not_filled k u ne e) d)
 
 module _ (size : Size) (slots id : ℕ) (me : Sat) where
   pub writes_allows : (p : Piece) → me.0.filling ≡ Some p → length p.words + 1 < 64 → (n : ℕ)
       → Allows (Leased size) slots id me (word_at p.id.block (length p.words)) (λ _. n)
-          (λ _. Writes (step slots (word_at p.id.block (length p.words)) n 0 none) me n)
+      (λ _. Writes (step slots (word_at p.id.block (length p.words)) n 0 none) me n)
   writes_allows p fill short n s r homes at small = (
     growing me.0 (longer p n),
     keeps,
@@ -191,7 +191,7 @@ module _ (size : Size) (slots id : ℕ) (me : Sat) where
 
   pub ends_allows : (p : Piece) → me.0.filling ≡ Some p → (n : ℕ)
       → Allows (Leased size) slots id me (word_at p.id.block (length p.words)) (λ _. n)
-          (λ _. Ends (step slots (word_at p.id.block (length p.words)) n 0 none) me n)
+      (λ _. Ends (step slots (word_at p.id.block (length p.words)) n 0 none) me n)
   ends_allows p fill n s r homes at small = (
     holding me.0 (longer p n),
     keeps,

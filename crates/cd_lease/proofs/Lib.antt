@@ -11,7 +11,6 @@ pub mod Parting
 pub mod Searching
 pub mod StoreNumbers
 pub mod Held
-pub mod Opening
 pub mod Worked
 pub mod Showing
 pub mod Turning

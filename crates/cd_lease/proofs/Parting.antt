@@ -50,10 +50,10 @@ splits size id v n idle few s r at =
     let right : View = newcomer v.known n in
     let views : List View = set s.views id left ++ right ∷ [] in
     let sums : (f : View → ℕ) → total f views + f v ≡ total f s.views + f left + f right = λ f.
-        let t = total_set f s.views id v left at in let l = total_last f (set s.views id left) right in omega arith in
+    let t = total_set f s.views id v left at in let l = total_last f (set s.views id left) right in omega arith in
     let fills : (b : ℕ) → fillers views b ≡ fillers s.views b = λ b. let t = sums (fills_in b) in omega arith in
     let ours : (k : ℕ) (u : View) → get_elem? s.views k ≡ some u → Stands size.blocks s.words (fillers views) u = λ k u e.
-        still size s.words (fillers s.views) (fillers views) u fills (r.each k u e) in
+    still size s.words (fillers s.views) (fillers views) u fills (r.each k u e) in
     record {
       long = r.long;
       few = r.few;
@@ -67,17 +67,17 @@ splits size id v n idle few s r at =
           record { one = f ∙ is.one; none = omega arith };
       each = λ k u e. ⊎_elim
           (λ before. ⊎_elim
-              (λ t. subst (λ (x : View). Stands size.blocks s.words (fillers views) x) t.1
-                  (let mine = ours id v at in
-                  record {
-                    held = mine.held;
-                    seen = mine.seen;
-                    filled = mine.filled;
-                    missed = mine.missed;
-                    tried = let z : one_there v.trying ≡ 0 = ap one_there idle.trying in omega arith;
-                  }))
-              (λ t. ours k u t.1)
-              (at_set s.views id k left u before))
+          (λ t. subst (λ (x : View). Stands size.blocks s.words (fillers views) x) t.1
+          (let mine = ours id v at in
+          record {
+            held = mine.held;
+            seen = mine.seen;
+            filled = mine.filled;
+            missed = mine.missed;
+            tried = let z : one_there v.trying ≡ 0 = ap one_there idle.trying in omega arith;
+          }))
+          (λ t. ours k u t.1)
+          (at_set s.views id k left u before))
           (λ is. subst (λ (x : View). Stands size.blocks s.words (fillers views) x) is (fresh size s.words (fillers views) v n (ours id v at)))
           (at_snoc (set s.views id left) right u k e);
     }
@@ -90,13 +90,13 @@ joins size id v child w idle nothing s r at ne at_child =
     let middle : List View = set s.views id both in
     let views : List View = set middle child spent in
     let sums : (f : View → ℕ) → total f views + f v + f w ≡ total f s.views + f both + f spent = λ f.
-        let t = total_set f s.views id v both at in let l = total_set f middle child w spent at_child in omega arith in
+    let t = total_set f s.views id v both at in let l = total_set f middle child w spent at_child in omega arith in
     let w_fills : (b : ℕ) → fills_in b w ≡ 0 = λ b. ap (fills_of b) idle.filling in
     let w_tries : (b : ℕ) → tries_of b w.trying ≡ 0 = λ b. ap (tries_of b) idle.trying in
     let w_holds : (b : ℕ) → holds_in b w ≡ 0 = λ b. let m : ids_of b w.holds ≤ length w.holds = ids_most b w.holds in omega arith in
     let fills : (b : ℕ) → fillers views b ≡ fillers s.views b = λ b. let t = sums (fills_in b) in let z = w_fills b in omega arith in
     let ours : (k : ℕ) (u : View) → get_elem? s.views k ≡ some u → Stands size.blocks s.words (fillers views) u = λ k u e.
-        still size s.words (fillers s.views) (fillers views) u fills (r.each k u e) in
+    still size s.words (fillers s.views) (fillers views) u fills (r.each k u e) in
     let theirs = ours child w (sym (set_else s.views id child both ne) ∙ at_child) in
     record {
       long = r.long;
@@ -123,16 +123,16 @@ joins size id v child w idle nothing s r at ne at_child =
       each = λ k u e. ⊎_elim
           (λ t. subst (λ (x : View). Stands size.blocks s.words (fillers views) x) t.1 (spent_stands size s.words (fillers views) 0))
           (λ before. ⊎_elim
-              (λ t. subst (λ (x : View). Stands size.blocks s.words (fillers views) x) t.1
-                  (let mine = ours id v at in
-                  record {
-                    held = mine.held;
-                    seen = mine.seen;
-                    filled = mine.filled;
-                    missed = both_missed size.blocks s.words v.gone w.gone mine.missed theirs.missed;
-                    tried = let m : one_there v.trying ≤ v.room = mine.tried in omega arith;
-                  }))
-              (λ t. ours k u t.1)
-              (at_set s.views id k both u before.1))
+          (λ t. subst (λ (x : View). Stands size.blocks s.words (fillers views) x) t.1
+          (let mine = ours id v at in
+          record {
+            held = mine.held;
+            seen = mine.seen;
+            filled = mine.filled;
+            missed = both_missed size.blocks s.words v.gone w.gone mine.missed theirs.missed;
+            tried = let m : one_there v.trying ≤ v.room = mine.tried in omega arith;
+          }))
+          (λ t. ours k u t.1)
+          (at_set s.views id k both u before.1))
           (at_set middle child k spent u e);
     }

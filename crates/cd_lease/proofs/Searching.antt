@@ -31,15 +31,6 @@ passes_on a b c m n o p q = record {
 known_of : (low high : ℕ) (m n : Sat) → PassesBy low high m n → n.0.known ≡ m.0.known
 known_of low high m n p = ap (λ (x : Sat). x.0.known) p.now
 
-pub idle_of : (low high : ℕ) (m n : Sat) → PassesBy low high m n → IsIdle m.0 → IsIdle n.0
-idle_of low high m n p is = record {
-  filling = ap (λ (x : Sat). x.0.filling) p.now ∙ is.filling;
-  trying = ap (λ (x : Sat). x.0.trying) p.now ∙ is.trying;
-}
-
-pub room_of : (low high : ℕ) (m n : Sat) → PassesBy low high m n → 0 < m.0.room → 0 < n.0.room
-room_of low high m n p h = subst (λ (k : ℕ). 0 < k) (sym (ap (λ (x : Sat). x.0.room) p.now)) h
-
 found_on : (a b : ℕ) (ls ms : List Look) (id : KeepId) → PassedBy a b ls → Found ms b id → Found (ls ++ ms) a id
 found_on a b ls ms id p f = record {
   before = ls ++ f.before;
@@ -88,15 +79,7 @@ won_block b word m n o is e f new = record {
   fresh = ap (λ ps. words_under ps (next_id b word)) (sym (ap (λ (x : Sat). x.0.known) e)) ∙ new;
 }
 
--- both halves of a search
-
-pub all_passed : (start blocks : ℕ) (m n o : Sat) → PassesBy start blocks m n → PassesBy 0 start n o → PassesAll blocks m o
-all_passed start blocks m n o p q =
-    record {
-      seen = p.seen ++ q.seen;
-      now = q.now ∙ (ap (λ (x : Sat). with_view x (met x.0 q.seen)) p.now ∙ ap (λ (x : View). with_view m x) (met_more m.0 p.seen q.seen));
-      passed = record { start = start; first = p.seen; second = q.seen; whole = refl; onward = p.passed; around = q.passed };
-    }
+-- a search that ends in its first half
 
 pub found_first : (start blocks : ℕ) (m n : Sat) (id : KeepId) → Finds start m n id → FindsAround blocks m n id
 found_first start blocks m n id f = record {
@@ -104,12 +87,4 @@ found_first start blocks m n id f = record {
   now = f.now;
   found = record { start = start; first = []; second = f.seen; whole = refl; found = inl (refl, f.found) };
   fresh = f.fresh;
-}
-
-pub found_second : (start blocks : ℕ) (m n o : Sat) (id : KeepId) → PassesBy start blocks m n → Finds 0 n o id → FindsAround blocks m o id
-found_second start blocks m n o id p f = record {
-  seen = p.seen ++ f.seen;
-  now = f.now ∙ taking_more m n p.seen f.seen id p.now;
-  found = record { start = start; first = p.seen; second = f.seen; whole = refl; found = inr (p.passed, f.found) };
-  fresh = ap (λ ps. words_under ps id) (sym (known_of start blocks m n p)) ∙ f.fresh;
 }

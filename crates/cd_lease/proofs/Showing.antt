@@ -27,17 +27,3 @@ left_rests size v id h r = record {
   block = r.block;
   short = r.short;
 }
-
--- words that were met, and then more
-
-pub met_on : (v w x : View) (ls : List Look) → Met v w → x ≡ met w ls → Met v x
-met_on v w x ls m e = record {
-  seen = m.seen ++ ls;
-  now = e ∙ (ap (λ (y : View). met y ls) m.now ∙ ap (λ (xs : List Look). record v { looks = xs }) (append_assoc v.looks m.seen ls));
-}
-
-pub keeps_on : (v w x : View) (ls : List Look) (piece : List ℕ) (id : KeepId) → Met v w → x ≡ keeping w ls id piece → KeepsAt v x piece id
-keeps_on v w x ls piece id m e = record {
-  seen = m.seen ++ ls;
-  now = e ∙ (ap (λ (y : View). keeping y ls id piece) m.now ∙ ap (λ (xs : List Look). record (keeping v [] id piece) { looks = xs }) (append_assoc v.looks m.seen ls));
-}

@@ -56,7 +56,7 @@ module _ (size : Size) (s : St) (r : Leased size s) where
         → ((b : ℕ) → 0 < fillers (set s.views id w) b → IsAlone b (set s.views id w))
         → Stands size.blocks (set s.words i n) (fillers (set s.views id w)) w
         → ((k : ℕ) (u : View) → k ≢ id → get_elem? s.views k ≡ some u → (b : ℕ) → b < size.blocks
-            → Change s.words (set s.words i n) (fillers s.views) (fillers (set s.views id w)) u b)
+        → Change s.words (set s.words i n) (fillers s.views) (fillers (set s.views id w)) u b)
         → Leased size (stepped s i n id c w keeps)
     step_kept i n c spends counts alone mine others =
         let vs : List ℕ = set s.words i n in

@@ -31,11 +31,11 @@ pub same_table : (t u : TableId) → number t ≡ number u → t ≡ u
 unfolding number
 same_table t u e =
     let a = pairs t.words (pair t.slots (pair t.views_name (pair t.atom (pair t.block (pair t.offset (row t.slot_names))))))
-            u.words (pair u.slots (pair u.views_name (pair u.atom (pair u.block (pair u.offset (row u.slot_names)))))) e in
+    u.words (pair u.slots (pair u.views_name (pair u.atom (pair u.block (pair u.offset (row u.slot_names)))))) e in
     let b = pairs t.slots (pair t.views_name (pair t.atom (pair t.block (pair t.offset (row t.slot_names)))))
-            u.slots (pair u.views_name (pair u.atom (pair u.block (pair u.offset (row u.slot_names))))) a.1 in
+    u.slots (pair u.views_name (pair u.atom (pair u.block (pair u.offset (row u.slot_names))))) a.1 in
     let c = pairs t.views_name (pair t.atom (pair t.block (pair t.offset (row t.slot_names))))
-            u.views_name (pair u.atom (pair u.block (pair u.offset (row u.slot_names)))) b.1 in
+    u.views_name (pair u.atom (pair u.block (pair u.offset (row u.slot_names)))) b.1 in
     let d = pairs t.atom (pair t.block (pair t.offset (row t.slot_names))) u.atom (pair u.block (pair u.offset (row u.slot_names))) c.1 in
     let f = pairs t.block (pair t.offset (row t.slot_names)) u.block (pair u.offset (row u.slot_names)) d.1 in
     let g = pairs t.offset (row t.slot_names) u.offset (row u.slot_names) f.1 in

@@ -75,7 +75,7 @@ Ends st m n m' = (p : Piece) → m.0.filling ≡ Some p → st.word ≡ word_at 
 abbrev pub Reads : Tells
 Reads st m n m' = (m' ≡ m)
     × ((id : KeepId) (piece : List ℕ) (i : ℕ) → 0 < times m.0.holds id → words_under m.0.known id ≡ Some piece → i < length piece
-        → st.word ≡ word_at id.block i → n ≡ slice_index piece i)
+    → st.word ≡ word_at id.block i → n ≡ slice_index piece i)
 
 -- leave: a hold ends; its id stays known
 abbrev pub leaving : View → KeepId → View

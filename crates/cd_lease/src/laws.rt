@@ -5,5 +5,4 @@ ghost use Rattle.cd_lease.specs.Laws.{HeldStays};
 /// begins with the words that were kept.
 pub fn held_words_stay()
     ensures { HeldStays }
-{
-}
+{}

@@ -153,12 +153,7 @@ fn splits_and_takes_back(pass: &mut LeasePass) -> Result<(), Wrong>
 }
 
 // So many turns of a pass that begins with nothing and ends so.
-fn turns<R: Wait>(
-    rt: &R,
-    mut pass: LeasePass,
-    seen: KeepId,
-    count: u64,
-) -> Result<LeasePass, Wrong>
+fn turns<R: Wait>(rt: &R, mut pass: LeasePass, seen: KeepId, count: u64) -> Result<LeasePass, Wrong>
     requires { CanTurn (model_of pass) seen }
     ensures { IfOk result (λ after. IsSpare (model_of pass) (model_of after)) }
 {

@@ -15,10 +15,10 @@ fetch_add-requires g c =
       c.requires.at.same,
       (let l = c.requires.at.long in let b = c.requires.block in omega arith),
       subst (λ (x : KeepId). Allows (Leased c.args.table.now.key) c.args.table.now.table_id.slots c.args.seat.now.id c.args.seat.now.me (control_at c.args.id.block)
-              (λ n. (n + 1) % 2 ^ 64) (Shares x (step c.args.table.now.table_id.slots (control_at c.args.id.block) 1 0 none) c.args.seat.now.me))
+          (λ n. (n + 1) % 2 ^ 64) (Shares x (step c.args.table.now.table_id.slots (control_at c.args.id.block) 1 0 none) c.args.seat.now.me))
           e
           (shares_allows c.args.table.now.key c.args.table.now.table_id.slots c.args.seat.now.id c.args.seat.now.me c.args.id
-              c.requires.block c.requires.known c.requires.room c.requires.idle.trying),
+          c.requires.block c.requires.known c.requires.room c.requires.idle.trying),
     )
 
 pub returns-clause-at : goal.returns-clause-at

@@ -21,6 +21,6 @@ pub returns-clause-me : goal.returns-clause-me
 returns-clause-me c =
     let len : length (take c.args.i c.args.words.now) ≡ c.args.i = length-take-le c.args.i c.args.words.now (let w = c.requires.within in omega arith) in
     let more : take (c.args.i + 1) c.args.words.now ≡ take c.args.i c.args.words.now ++ get_or c.args.words.now c.args.i 0 ∷ [] =
-        take_more c.args.words.now c.args.i 0 (let w = c.requires.within in omega arith) in
+    take_more c.args.words.now c.args.i 0 (let w = c.requires.within in omega arith) in
     c.store.ensures.2 (piece_of c.args.id (take c.args.i c.args.words.now)) c.requires.filling (ap (λ (x : ℕ). 65 * c.args.id.block + 1 + x) (sym len))
     ∙ ap (λ (xs : List ℕ). with_view c.args.seat.now.me (growing c.args.seat.now.me.0 (piece_of c.args.id xs))) (sym more)

@@ -9,7 +9,7 @@ loop-block-init c = (c.requires.at, nothing_passed c.args.low c.args.seat.now.me
 pub returns-in-Some-clause-outcome : goal.returns-in-Some-clause-outcome
 returns-in-Some-clause-outcome c =
     finds_on c.args.low c.loop-block.block c.args.seat.now.me c.loop-block.seat.me c.try_block.new.seat.me (id_of c.loop-block.block c.in-Some.serial)
-        c.loop-block.invariant.1 c.in-Some.ensures.outcome
+    c.loop-block.invariant.1 c.in-Some.ensures.outcome
 
 pub loop-block-preserved : goal.loop-block-preserved
 loop-block-preserved c = (
