@@ -111,7 +111,7 @@ done_words : EndLaws → (plan : PlanModel) (regions : List Region) (script : Li
     → ((p : Place) → in_ranges writes p ≡ node_writes (root_of plan.tree.domains) p)
     → ((p : Place) → in_ranges carved p ≡ node_writes (root_of plan.tree.domains) p)
     → SameWords (node_reach (root_of plan.tree.domains)) w
-        (node_meaning (root_of plan.tree.domains) (part_of (loaded regions script) reads writes).words)
+    (node_meaning (root_of plan.tree.domains) (part_of (loaded regions script) reads writes).words)
     → (p : Place) → Back carved w (initial regions) p ≡ node_meaning (root_of plan.tree.domains) (initial regions) p
 done_words l plan regions script reads writes carved w is reading writing carving same p =
     let d : Node = root_of plan.tree.domains in

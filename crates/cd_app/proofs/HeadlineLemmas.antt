@@ -73,7 +73,10 @@ pub runs_are_told : RunsAreTold
 runs_are_told call old new Done with_record asked comes (outcome, ends, same, grew) =
     let run : IsRun call with_record outcome = runs_by_text call with_record outcome asked ends (ap standing same) in
     record {
-      input = run.input; gave = run.gave; accepted = run.accepted; holds = held call with_record outcome run ends;
+      input = run.input;
+      gave = run.gave;
+      accepted = run.accepted;
+      holds = held call with_record outcome run ends;
       tells = (
         done_cause (cause_in run.input.document.tree run.input.script) (by_cause call with_record outcome run Done same),
         subst (λ (o : Outcome). Grew old new (text_in call o)) run.is grew,
@@ -82,7 +85,10 @@ runs_are_told call old new Done with_record asked comes (outcome, ends, same, gr
 runs_are_told call old new (Exhausted why) with_record asked comes (outcome, ends, same, grew) =
     let run : IsRun call with_record outcome = runs_by_text call with_record outcome asked ends (ap standing same) in
     record {
-      input = run.input; gave = run.gave; accepted = run.accepted; holds = held call with_record outcome run ends;
+      input = run.input;
+      gave = run.gave;
+      accepted = run.accepted;
+      holds = held call with_record outcome run ends;
       tells = (
         exhausted_cause (cause_in run.input.document.tree run.input.script) why (by_cause call with_record outcome run (Exhausted why) same),
         subst (λ (o : Outcome). Grew old new (text_in call o)) run.is grew,
@@ -91,7 +97,10 @@ runs_are_told call old new (Exhausted why) with_record asked comes (outcome, end
 runs_are_told call old new WriteFault with_record asked comes (outcome, ends, text, cut) =
     let run : IsRun call with_record outcome = runs_by_text call with_record outcome asked ends text in
     record {
-      input = run.input; gave = run.gave; accepted = run.accepted; holds = held call with_record outcome run ends;
+      input = run.input;
+      gave = run.gave;
+      accepted = run.accepted;
+      holds = held call with_record outcome run ends;
       tells = subst (λ (o : Outcome). CutShort old new (text_in call o)) run.is cut;
     }
 runs_are_told call old new Usage with_record asked comes meets = absurd cc

@@ -106,7 +106,7 @@ pub can_run : (document : Document) (plan : PlanModel) (script : List Fault) (pa
     → CanRun plan part
 can_run document plan script part rest passed known carved =
     let there : (p : Place) → node_reach (root_of plan.tree.domains) p ≡ true
-        → IsSome ((part_of (loaded document.regions script) carved.reads carved.writes).words p) =
+    → IsSome ((part_of (loaded document.regions script) carved.reads carved.writes).words p) =
     λ p reached.
     subst IsSome
     (sym (part_word document.regions script carved.reads carved.writes p

@@ -93,7 +93,15 @@ fn run_document<R: Threads + Wait + Sync, K: Sink, F: Field>(
     match run_machine(rt, alloc, asked.workers, document, plan, script, machine) {
         Ok((begins, cause)) => {
             let told = cause.as_ref();
-            let wrote = report(alloc, document, machine, &begins, told, asked.with_record, sink);
+            let wrote = report(
+                alloc,
+                document,
+                machine,
+                &begins,
+                told,
+                asked.with_record,
+                sink,
+            );
             settled(wrote, status_by(cause))
         }
         Err(NoMemory) => Status::NoMemory,

@@ -129,7 +129,9 @@ y = record { region = 0; low = 0; high = 4 }
 abbrev filling : Document
 filling =
     record {
-      version = 1; regions = region (codes "y") 4 ∷ []; faults = [];
+      version = 1;
+      regions = region (codes "y") 4 ∷ [];
+      faults = [];
       tree = record single { domains = record (domain (codes "root") None) { items = Run (Fill y 7) ∷ [] } ∷ [] };
     }
 

@@ -143,7 +143,10 @@ fn answers<R: Threads + Wait + Sync>(
 /// A call that runs a document: it answers as the case says, and the record begins exactly where the status is of a run.
 fn runs<R: Threads + Wait + Sync>(
     rt: &R,
-    alloc: Global, words: &[&str], case: &Case) -> Result<(), Fail> {
+    alloc: Global,
+    words: &[&str],
+    case: &Case,
+) -> Result<(), Fail> {
     let mut machine = MapField::empty(alloc);
     let (_, _, status, _) = case;
     if answers(rt, alloc, words, case, &mut machine)? == (*status < 2) {
@@ -155,7 +158,10 @@ fn runs<R: Threads + Wait + Sync>(
 /// A call that runs nothing: it answers as the case says, and there is no record.
 pub(crate) fn tells<R: Threads + Wait + Sync>(
     rt: &R,
-    alloc: Global, words: &[&str], case: &Case) -> Result<(), Fail> {
+    alloc: Global,
+    words: &[&str],
+    case: &Case,
+) -> Result<(), Fail> {
     let mut machine = MapField::empty(alloc);
     if answers(rt, alloc, words, case, &mut machine)? {
         return Err(failed(words, "leaves a record", case));
@@ -191,7 +197,10 @@ fn has_part(text: &[u8], at_front: bool, part: &[u8]) -> bool {
 /// Calls that run documents, one for each case.
 pub(crate) fn all_run<R: Threads + Wait + Sync>(
     rt: &R,
-    alloc: Global, words: &[&str], cases: &[Case]) -> Result<(), Fail> {
+    alloc: Global,
+    words: &[&str],
+    cases: &[Case],
+) -> Result<(), Fail> {
     for case in cases {
         runs(rt, alloc, words, case)?;
     }
@@ -201,7 +210,10 @@ pub(crate) fn all_run<R: Threads + Wait + Sync>(
 /// Calls that run nothing, one for each case.
 pub(crate) fn all_tell<R: Threads + Wait + Sync>(
     rt: &R,
-    alloc: Global, words: &[&str], cases: &[Case]) -> Result<(), Fail> {
+    alloc: Global,
+    words: &[&str],
+    cases: &[Case],
+) -> Result<(), Fail> {
     for case in cases {
         tells(rt, alloc, words, case)?;
     }
@@ -211,7 +223,10 @@ pub(crate) fn all_tell<R: Threads + Wait + Sync>(
 /// Calls of which each text begins with the case's.
 pub(crate) fn all_begin<R: Threads + Wait + Sync>(
     rt: &R,
-    alloc: Global, words: &[&str], cases: &[Case]) -> Result<(), Fail> {
+    alloc: Global,
+    words: &[&str],
+    cases: &[Case],
+) -> Result<(), Fail> {
     for case in cases {
         touches(rt, alloc, words, true, case)?;
     }
@@ -221,7 +236,10 @@ pub(crate) fn all_begin<R: Threads + Wait + Sync>(
 /// Calls of which each text ends with the case's.
 pub(crate) fn all_end<R: Threads + Wait + Sync>(
     rt: &R,
-    alloc: Global, words: &[&str], cases: &[Case]) -> Result<(), Fail> {
+    alloc: Global,
+    words: &[&str],
+    cases: &[Case],
+) -> Result<(), Fail> {
     for case in cases {
         touches(rt, alloc, words, false, case)?;
     }

@@ -33,7 +33,13 @@ fn stays<R: Threads + Wait + Sync>(
 ) -> Result<(), Fail> {
     let mut machine = MapField::empty(alloc);
     let first = call(rt, alloc, &["check"], document.as_bytes(), &mut machine)?;
-    let again = call(rt, alloc, &["check"], first.written.as_slice(), &mut machine)?;
+    let again = call(
+        rt,
+        alloc,
+        &["check"],
+        first.written.as_slice(),
+        &mut machine,
+    )?;
     let read = call(rt, alloc, &["read"], first.written.as_slice(), &mut machine)?;
     if first.status == 0
         && first.written.as_slice().starts_with(line.as_bytes())

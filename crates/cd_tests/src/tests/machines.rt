@@ -196,5 +196,11 @@ fn a_recovered_run_leaves_its_record(rt: HostRuntime) -> Result<(), Fail> {
 #[test]
 fn an_exhausted_run_ends_with_its_refill(rt: HostRuntime) -> Result<(), Fail> {
     let last = [REFILLED, Event::Escalate { node: NODE }];
-    leaves(&rt, rt.alloc(), EXHAUSTED, Kinds::none().with(Kind(0)), &last)
+    leaves(
+        &rt,
+        rt.alloc(),
+        EXHAUSTED,
+        Kinds::none().with(Kind(0)),
+        &last,
+    )
 }

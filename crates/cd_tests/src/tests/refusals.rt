@@ -248,7 +248,9 @@ fn a_document_is_refused_where_it_is_cut(rt: HostRuntime) -> Result<(), Fail> {
     let mut text = String::new(rt.alloc());
     for (line, status, written) in &CUTS {
         text.push_str(line)?;
-        touches(&rt, rt.alloc(),
+        touches(
+            &rt,
+            rt.alloc(),
             &["check"],
             true,
             &(text.as_str(), "", *status, *written),

@@ -14,8 +14,7 @@ const NESTED_LOST: &str =
     "faults\nstrike root/a 1 1 flip y[0] 255\nstrike root/a 2 1 flip y[3] 1\n";
 
 /// One member escalates from the first try of the root, and the other from the second.
-const MEMBERS_LOST: &str =
-    "faults\nstrike root/b 1 1 flip y[2] 1\nstrike root/c 2 0 flip z[0] 2\n";
+const MEMBERS_LOST: &str = "faults\nstrike root/b 1 1 flip y[2] 1\nstrike root/c 2 0 flip z[0] 2\n";
 
 /// Words that patterns are to make anew: of the root and of its first member they do, of the second they do not.
 const MADE_BELOW: &str = "\
