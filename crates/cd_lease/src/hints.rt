@@ -48,6 +48,13 @@ impl Hints {
         }
     }
 
+    // The same, where it has.
+    pub(crate) fn remember_if(&mut self, free: bool, block: u32) {
+        if free {
+            self.remember(block);
+        }
+    }
+
     // Gives another pass some of these.
     pub(crate) fn give(&mut self, other: &mut Hints, count: u32) {
         for _ in 0..count {

@@ -9,8 +9,8 @@ ghost use Rattle.cd_lease.specs.IdProps.{id_props};
 use crate::hints::Hints;
 use crate::passing::{give_back, part, share, take_back};
 use crate::rule::{Blocks, Place, Size};
-use crate::steps::{leave, read};
-use crate::trying::{is_last_user, keep_in, serial_part};
+use crate::steps::{let_go, read};
+use crate::trying::{keep_in, serial_part};
 use atomic_table::Table;
 use cd_base::NoMemory;
 use cd_keep::{GoneNote, KeepId, Pass};
@@ -180,10 +180,8 @@ impl Pass for LeasePass {
         ensures model { model_of self.new ≡ gave_up (model_of self.old) id }
         ensures view { view_of self.new ≡ leaving (view_of self.old) id }
     {
-        let word = leave(&self.table.shared, &mut self.seat, id);
-        if is_last_user(word) {
-            self.hints.remember(id.block);
-        }
+        let free = let_go(&self.table.shared, &mut self.seat, id);
+        self.hints.remember_if(free, id.block);
     }
 
     fn join(&mut self, child: Self)

@@ -93,6 +93,18 @@ pub(crate) fn leave(table: &Steps, seat: &mut Place, id: KeepId) -> u64
     table.fetch_sub::<Leaving>(seat, 65 * id.block as usize, 1)
 }
 
+// Ends a hold, and says whether it was the last use of the block.
+pub(crate) fn let_go(table: &Steps, seat: &mut Place, id: KeepId) -> bool
+    requires at { IsAt table.now.table_id seat.old.table_id table.now.key }
+    requires block { id.block < table.now.key.blocks }
+    requires held { 0 < times seat.old.me.0.holds id }
+    ensures at { IsAt table.now.table_id seat.new.table_id table.now.key }
+    ensures me { seat.new.me ≡ (leaving seat.old.me.0 id, seat.old.me.1) }
+{
+    let word = leave(table, seat, id);
+    word % 16_777_216 == 1
+}
+
 // Fills a block that was taken: it is held, with these words.
 pub(crate) fn fill(table: &Steps, seat: &mut Place, id: KeepId, words: &[u64])
     requires at { IsAt table.now.table_id seat.old.table_id table.now.key }

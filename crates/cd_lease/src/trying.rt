@@ -29,11 +29,6 @@ pub(crate) fn serial_part(word: u64) -> u64
     word / SERIAL
 }
 
-// Whether a control word counts one user alone.
-pub(crate) fn is_last_user(word: u64) -> bool {
-    word % SERIAL == 1
-}
-
 // Meets one block, and takes it where it is open: a filling under the next serial begins. The serial comes back.
 fn try_block(table: &Steps, seat: &mut Place, block: u32) -> Option<u64>
     requires at { IsAt table.now.table_id seat.old.table_id table.now.key }

@@ -27,17 +27,20 @@ returns-clause-at g c = record { same = c.fetch_add.ensures.0 ∙ c.requires.at.
 pub returns-clause-held : goal.returns-clause-held
 returns-clause-held g c =
     let e = id_from c.args.id (id_of g.B.Asked.block g.B.Asked.serial) c.requires.asked.0 c.requires.asked.1 in
-    let told = subst (λ (x : KeepId). Shares x (step c.args.table.now.table_id.slots (control_at c.args.id.block) 1 0 none) c.args.seat.now.me c.fetch_add.result c.fetch_add.new.seat.me) (sym e) c.fetch_add.ensures.2 in
+    let st = step c.args.table.now.table_id.slots (control_at c.args.id.block) 1 0 none in
+    let told = subst (λ (x : KeepId). Shares x st c.args.seat.now.me c.fetch_add.result c.fetch_add.new.seat.me) (sym e) c.fetch_add.ensures.2 in
     told.0
 
 pub returns-clause-past : goal.returns-clause-past
 returns-clause-past g c =
     let e = id_from c.args.id (id_of g.B.Asked.block g.B.Asked.serial) c.requires.asked.0 c.requires.asked.1 in
-    let told = subst (λ (x : KeepId). Shares x (step c.args.table.now.table_id.slots (control_at c.args.id.block) 1 0 none) c.args.seat.now.me c.fetch_add.result c.fetch_add.new.seat.me) (sym e) c.fetch_add.ensures.2 in
+    let st = step c.args.table.now.table_id.slots (control_at c.args.id.block) 1 0 none in
+    let told = subst (λ (x : KeepId). Shares x st c.args.seat.now.me c.fetch_add.result c.fetch_add.new.seat.me) (sym e) c.fetch_add.ensures.2 in
     λ ne. (told.1 ne).0
 
 pub returns-clause-gone : goal.returns-clause-gone
 returns-clause-gone g c =
     let e = id_from c.args.id (id_of g.B.Asked.block g.B.Asked.serial) c.requires.asked.0 c.requires.asked.1 in
-    let told = subst (λ (x : KeepId). Shares x (step c.args.table.now.table_id.slots (control_at c.args.id.block) 1 0 none) c.args.seat.now.me c.fetch_add.result c.fetch_add.new.seat.me) (sym e) c.fetch_add.ensures.2 in
+    let st = step c.args.table.now.table_id.slots (control_at c.args.id.block) 1 0 none in
+    let told = subst (λ (x : KeepId). Shares x st c.args.seat.now.me c.fetch_add.result c.fetch_add.new.seat.me) (sym e) c.fetch_add.ensures.2 in
     λ ne. (told.1 ne).1

@@ -9,22 +9,15 @@ use Rattle.cd_lease.proofs.lease_pass.LeasePassPass.give_up.Goals as goal
 
 pub invariant_of-self-clause-rests : goal.invariant_of-self-clause-rests
 unfolding model_of
-invariant_of-self-clause-rests c = subst (λ (m : Sat). Rests (arc_value c.args.self.now.table).shared.key m.0) (sym c.leave-word.ensures.me)
-    (left_rests (arc_value c.args.self.now.table).shared.key c.args.self.now.seat.me.0 c.args.id c.requires c.args.self.now.rests)
+invariant_of-self-clause-rests c =
+    let pass = c.args.self.now in
+    let size = (arc_value pass.table).shared.key in
+    subst (λ (m : Sat). Rests size m.0) (sym c.let_go-free.ensures.me) (left_rests size pass.seat.me.0 c.args.id c.requires pass.rests)
 
-pub invariant_of-self-else-is_last_user-clause-rests : goal.invariant_of-self-else-is_last_user-clause-rests
+pub returns-clause-model : goal.returns-clause-model
 unfolding model_of
-invariant_of-self-else-is_last_user-clause-rests c = subst (λ (m : Sat). Rests (arc_value c.args.self.now.table).shared.key m.0) (sym c.leave-word.ensures.me)
-    (left_rests (arc_value c.args.self.now.table).shared.key c.args.self.now.seat.me.0 c.args.id c.requires c.args.self.now.rests)
-
-pub returns-then-is_last_user-clause-model : goal.returns-then-is_last_user-clause-model
-unfolding model_of
-returns-then-is_last_user-clause-model c =
-    ap (λ (m : Sat). shown_by (arc_value c.args.self.now.table).shared.key.most (number (arc_value c.args.self.now.table).shared.table_id) m.0) c.leave-word.ensures.me
-    ∙ left_shown (arc_value c.args.self.now.table).shared.key.most (number (arc_value c.args.self.now.table).shared.table_id) c.args.self.now.seat.me.0 c.args.id c.requires
-
-pub returns-else-is_last_user-clause-model : goal.returns-else-is_last_user-clause-model
-unfolding model_of
-returns-else-is_last_user-clause-model c =
-    ap (λ (m : Sat). shown_by (arc_value c.args.self.now.table).shared.key.most (number (arc_value c.args.self.now.table).shared.table_id) m.0) c.leave-word.ensures.me
-    ∙ left_shown (arc_value c.args.self.now.table).shared.key.most (number (arc_value c.args.self.now.table).shared.table_id) c.args.self.now.seat.me.0 c.args.id c.requires
+returns-clause-model c =
+    let pass = c.args.self.now in
+    let most = (arc_value pass.table).shared.key.most in
+    let store = number (arc_value pass.table).shared.table_id in
+    ap (λ (m : Sat). shown_by most store m.0) c.let_go-free.ensures.me ∙ left_shown most store pass.seat.me.0 c.args.id c.requires
