@@ -13,7 +13,8 @@ use cd_core::Outcome;
 use cd_cover::Plan;
 use cd_field::Field;
 use cd_fork::run_root;
-use cd_keep::{ArcPass, Pass};
+use cd_keep::Pass;
+use cd_lease::LeasePass;
 use cd_tree::{Begins, Cause, Document, NodeId, Script, laws};
 use std::alloc::Global;
 use std::sync::Wait;
@@ -62,7 +63,8 @@ fn root_part<F: Field>(
     Ok(part)
 }
 
-// Runs the program on the part of a machine that its root reaches, with as much room for copies as the root needs.
+// Runs the program on the part of a machine that its root reaches, with as many blocks, and as much room for copies, as the root
+// needs.
 fn run_part<R: Threads + Wait + Sync, F: Field>(
     rt: &R,
     alloc: Global,
@@ -74,7 +76,8 @@ fn run_part<R: Threads + Wait + Sync, F: Field>(
     ensures ran { IfOk result (RanTo F.model plan.now (F.model part)) }
     ensures few { IfOk result (FewBegins (F.model part)) }
 {
-    let pass = ArcPass::open(alloc, whole_need(plan))?;
+    let need = whole_need(plan);
+    let pass = LeasePass::open(alloc, need.max(1), need)?;
     run_with(rt, alloc, workers, plan, part, pass)
 }
 
