@@ -5,5 +5,6 @@ mod WorkedRuns
 mod SlotRuns
 mod FlatLemmas
 mod PartLemmas
+mod FaultLemmas
 mod EventLemmas
 mod TrialLemmas

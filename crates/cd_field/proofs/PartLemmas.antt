@@ -67,22 +67,6 @@ pub region_behind : (slots : List Slot) (r : Range) → ((k : ℕ) → k < lengt
 region_behind slots r below k short =
     let s : Range = (slot_at slots k).range in lower_behind s.region r.region s.high r.low (below k short)
 
--- a fault that strikes is among those that do
-pub struck_has : (faults : List Fault) (i : ℕ) (d : Fault) (id : NodeId) (begin point : ℕ) (P : Fault → Type 0) → i < length faults
-    → strikes_at id begin point (get_or faults i d) ≡ true → All P (struck faults id begin point) → P (get_or faults i d)
-struck_has [] i d id begin point P short hit all = absurd (omega arith)
-struck_has (fault ∷ faults) zero d id begin point P short hit all =
-    let Q : List Fault → Type 0 = λ v. All P v in
-    let e : struck (fault ∷ faults) id begin point ≡ fault ∷ struck faults id begin point = cond-true (strikes_at id begin point fault) _ _ hit in
-    All-head P fault (struck faults id begin point) (subst Q e all)
-struck_has (fault ∷ faults) (suc i) d id begin point P short hit all =
-    let Q : List Fault → Type 0 = λ v. All P v in
-    by_test (strikes_at id begin point fault)
-    (λ t. let e : struck (fault ∷ faults) id begin point ≡ fault ∷ struck faults id begin point = cond-true (strikes_at id begin point fault) _ _ t in
-    struck_has faults i d id begin point P (omega arith) hit (All-tail P fault (struck faults id begin point) (subst Q e all)))
-    (λ f. let e : struck (fault ∷ faults) id begin point ≡ struck faults id begin point = cond-false (strikes_at id begin point fault) _ _ f in
-    struck_has faults i d id begin point P (omega arith) hit (subst Q e all))
-
 -- a strike leaves no place without a word
 pub struck_known : (was later : Words) (p : Place) (mask : ℕ) (q : Place) → later ≡ struck_word was p mask → IsSome (was q) → IsSome (later q)
 struck_known was later p mask q is some =

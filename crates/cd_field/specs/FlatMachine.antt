@@ -2,6 +2,7 @@
 use Rattle.cd_field.specs.declared.script_field.ScriptField.{ScriptField}
 use Rattle.cd_field.specs.Flat.{flat_words, flat_lost}
 use Rattle.cd_field.specs.EventLists.{events_of}
+use Rattle.cd_field.specs.SharedFaults.{script_of}
 use Rattle.cd_field.specs.FieldModel.{FieldModel}
 
 abbrev pub flat_machine : ScriptField → FieldModel
@@ -10,7 +11,7 @@ flat_machine field = record {
   lost = flat_lost field.words.slots.items field.words.away.items;
   events = events_of field.events.parts.parts.items field.events.latest.items;
   notes = field.notes;
-  script = field.script.items;
+  script = script_of field.faults;
   node = field.node;
   begin = field.begin;
   carved = field.carved.items;

@@ -3,5 +3,7 @@ pub mod FieldModel
 pub mod Maps
 pub mod Flat
 pub mod EventLists
+pub mod FaultOrder
+pub mod SharedFaults
 pub mod FlatMachine
 pub mod Trials

@@ -3,13 +3,12 @@ ghost use Rattle.std.specs.Prelude.{◌≡◌, ◌≢◌, ◌<◌, ◌≤◌, �
 ghost use Rattle.cd_base.specs.Words.{pattern_word, struck_word, in_range, in_ranges};
 ghost use Rattle.cd_base.specs.Places.{IsOrdered, is_before};
 ghost use Rattle.cd_tree.specs.Meaning.{initial, written};
-ghost use Rattle.cd_tree.specs.Scripts.{struck, kinds_of, words_struck};
+ghost use Rattle.cd_tree.specs.Scripts.{kinds_of, words_struck};
 ghost use Rattle.cd_field.specs.Flat.{flat_words, flat_lost, slot_at};
 
 use crate::flat_words::FlatWords;
-use crate::words::strikes;
 use cd_base::{NoMemory, Place, Places, Range};
-use cd_tree::{Fault, Kinds, NodeId, Region};
+use cd_tree::{Fault, Kinds, Region};
 use std::alloc::Global;
 
 // The words that regions begin with.
@@ -111,33 +110,23 @@ pub(crate) fn take_ranges(words: &mut FlatWords, others: &FlatWords, ranges: &[R
     }
 }
 
-// The faults that strike at a point change their words, in order. Gives their kinds.
-pub(crate) fn strike_flat(
-    words: &mut FlatWords,
-    script: &[Fault],
-    node: NodeId,
-    begin: u64,
-    point: u32,
-) -> Kinds
-    requires known { All (λ fault. IsSome (flat_words words.old.slots.items words.old.words.items fault.place)) (struck script.now node begin point) }
-    requires here { All (λ fault. flat_lost words.old.slots.items words.old.away.items fault.place ≡ false) (struck script.now node begin point) }
-    ensures words { flat_words words.new.slots.items words.new.words.items ≡ words_struck (struck script.now node begin point) (flat_words words.old.slots.items words.old.words.items) }
+// Faults change their words, in order. Gives their kinds.
+pub(crate) fn strike_flat(words: &mut FlatWords, hits: &[Fault]) -> Kinds
+    requires { All (λ fault. IsSome (flat_words words.old.slots.items words.old.words.items fault.place)) hits.now }
+    ensures words { flat_words words.new.slots.items words.new.words.items ≡ words_struck hits.now (flat_words words.old.slots.items words.old.words.items) }
     ensures lost { flat_lost words.new.slots.items words.new.away.items ≡ flat_lost words.old.slots.items words.old.away.items }
-    ensures kinds { result ≡ kinds_of (struck script.now node begin point) }
+    ensures kinds { result ≡ kinds_of hits.now }
 {
     let mut kinds = Kinds::none();
-    for fault in script {
-        if strikes(*fault, node, begin, point) {
-            change_flat(words, fault.place, fault.mask);
-            kinds = kinds.with(fault.kind);
-        }
+    for fault in hits {
+        change_flat(words, fault.place, fault.mask);
+        kinds = kinds.with(fault.kind);
     }
     kinds
 }
 
 fn change_flat(words: &mut FlatWords, place: Place, mask: u64)
-    requires known { IsSome (flat_words words.old.slots.items words.old.words.items place) }
-    requires here { flat_lost words.old.slots.items words.old.away.items place ≡ false }
+    requires { IsSome (flat_words words.old.slots.items words.old.words.items place) }
     ensures words { flat_words words.new.slots.items words.new.words.items ≡ struck_word (flat_words words.old.slots.items words.old.words.items) place mask }
     ensures lost { (q : _) → flat_lost words.new.slots.items words.new.away.items q ≡ flat_lost words.old.slots.items words.old.away.items q }
 {

@@ -13,11 +13,13 @@
 #![tactic(auto)]
 
 mod event_list;
+mod faults;
 mod field;
 mod flat_parts;
 mod flat_words;
 mod map_field;
 mod script_field;
+mod shared_faults;
 mod words;
 
 pub use field::Field;
