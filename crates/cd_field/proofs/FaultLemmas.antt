@@ -1,9 +1,9 @@
 -- Faults in order: what a stable sort gives, and where those of one point stand.
-use Rattle.std.proofs.Common.{◌≡◌, ℕ, zero, suc, ◌+◌, ◌<◌, ◌≤◌, Bool, true, false, not, ◌&&◌, ◌||◌, nat_lt, ◌==◌, List, [], ◌∷◌, length, take, drop, filter, get_or, refl, ap, sym, subst, ◌∙◌, arith, inl, inr}
+use Rattle.std.proofs.Common.{◌≡◌, ℕ, zero, suc, ◌+◌, ◌<◌, ◌≤◌, Bool, true, false, not, ◌&&◌, ◌==◌, List, [], ◌∷◌, length, take, drop, filter, get_or, refl, ap, sym, subst, ◌∙◌, arith, inl, inr}
 use Rattle.std.proofs.Math.Path.{fun_ext}
 use Rattle.std.proofs.lemmas.Bool.{cond-true, cond-false, cases_lt}
 use Rattle.std.proofs.lemmas.Bool.Decides.{nat_tests}
-use Rattle.std.proofs.lemmas.List.{get_or-drop, length-drop}
+use Rattle.std.proofs.lemmas.List.{get_or-drop, get_or_default, length-drop}
 use Rattle.std.proofs.lemmas.List.Sorted.{ranks_by, sorted_far}
 use Rattle.std.proofs.lemmas.Cmp.{nat_cmp_total, on_total, then_total}
 use Rattle.std.specs.declared.cmp.Ordering.{Ordering}
@@ -13,6 +13,7 @@ use Rattle.std.specs.List.Sorted.{IsSortedByKey, IsStableByKey, IsPartitionedBy,
 use Rattle.cd_tree.specs.declared.domain.NodeId.{NodeId}
 use Rattle.cd_tree.specs.declared.document.Fault.{Fault}
 use Rattle.cd_tree.specs.Scripts.{strikes_at, struck}
+use Rattle.cd_field.proofs.StrikeLemmas.{no_fault}
 use Rattle.cd_field.specs.FaultOrder.{is_earlier, strikes_before, IsInFaultOrder, StrikeAlike, IsCalm}
 
 -- ---- the key
@@ -82,22 +83,22 @@ filter_none {X} p (x ∷ xs) each =
 
 filter_first : {X : Type 0} (p : X → Bool) (xs : List X) (n : ℕ) → n ≤ length xs → ((k : ℕ) (d : X) → k < n → p (get_or xs k d) ≡ true)
     → ((k : ℕ) (d : X) → n ≤ k → k < length xs → p (get_or xs k d) ≡ false) → take n xs ≡ filter p xs
-filter_first {X} p xs zero short yes no = sym (filter_none p xs (λ k d within. no k d (omega arith) within))
-filter_first {X} p [] (suc n) short yes no = absurd (omega arith)
-filter_first {X} p (x ∷ xs) (suc n) short yes no =
+filter_first {X} p xs zero short pass fail = sym (filter_none p xs (λ k d within. fail k d (omega arith) within))
+filter_first {X} p [] (suc n) short pass fail = absurd (omega arith)
+filter_first {X} p (x ∷ xs) (suc n) short pass fail =
     ap (λ (v : List X). x ∷ v)
-    (filter_first p xs n (omega arith) (λ k d before. yes (suc k) d (omega arith)) (λ k d behind within. no (suc k) d (omega arith) (omega arith)))
-    ∙ sym (cond-true (p x) (x ∷ filter p xs) (filter p xs) (yes 0 x (omega arith)))
+    (filter_first p xs n (omega arith) (λ k d before. pass (suc k) d (omega arith)) (λ k d behind within. fail (suc k) d (omega arith) (omega arith)))
+    ∙ sym (cond-true (p x) (x ∷ filter p xs) (filter p xs) (pass 0 x (omega arith)))
 
 -- the elements from a on, n of them, and no others pass the test
 pub filter_run : {X : Type 0} (p : X → Bool) (xs : List X) (a n : ℕ) → n ≤ length (drop a xs)
     → ((k : ℕ) (d : X) → k < a → k < length xs → p (get_or xs k d) ≡ false)
     → ((k : ℕ) (d : X) → k < n → p (get_or (drop a xs) k d) ≡ true)
     → ((k : ℕ) (d : X) → n ≤ k → k < length (drop a xs) → p (get_or (drop a xs) k d) ≡ false) → take n (drop a xs) ≡ filter p xs
-filter_run {X} p xs zero n short before yes no = filter_first p xs n short yes no
-filter_run {X} p [] (suc a) n short before yes no = filter_first p [] n short yes no
-filter_run {X} p (x ∷ xs) (suc a) n short before yes no =
-    filter_run p xs a n short (λ k d at within. before (suc k) d (omega arith) (omega arith)) yes no
+filter_run {X} p xs zero n short before pass fail = filter_first p xs n short pass fail
+filter_run {X} p [] (suc a) n short before pass fail = filter_first p [] n short pass fail
+filter_run {X} p (x ∷ xs) (suc a) n short before pass fail =
+    filter_run p xs a n short (λ k d at within. before (suc k) d (omega arith) (omega arith)) pass fail
     ∙ sym (cond-false (p x) (x ∷ filter p xs) (filter p xs) (before 0 x (omega arith) (omega arith)))
 
 -- ---- those of a point
@@ -157,7 +158,8 @@ hits_are order id begin point first count split short here =
 
 -- the first that does not strike before a begin is of another, or there is none
 abbrev pub IsOfOther : List Fault → ℕ → NodeId → ℕ → Type 0
-IsOfOther order first id begin = (d : Fault) → first < length order → (((get_or order first d).node.0 == id.0) && ((get_or order first d).begin == begin)) ≡ false
+IsOfOther order first id begin =
+    first < length order → (((get_or order first no_fault).node.0 == id.0) && ((get_or order first no_fault).begin == begin)) ≡ false
 
 calm_fault : (a i s n b p : ℕ) (m c q : ℕ) → is_earlier a i s m c q ≡ false → is_earlier m c q n b 0 ≡ false → ((m == n) && (c == b)) ≡ false
     → ((a == n) && (i == b) && (s == p)) ≡ false
@@ -171,15 +173,17 @@ pub calm_from : (order : List Fault) (id : NodeId) (begin first : ℕ) → IsInF
     → IsOfOther order first id begin → IsCalm order id begin
 calm_from order id begin first sorted split other = record {
   none = λ point. filter_none (strikes_at id begin point) order (λ k d within.
-      let f : Fault = get_or order k d in
-      let g : Fault = get_or order first d in
-      elim (cases_lt k first) [
-        | inl l ↦ calm_before f.node.0 f.begin f.item id.0 begin point (split.0 k d (omega arith) l)
+      let f : Fault = get_or order k no_fault in
+      let g : Fault = get_or order first no_fault in
+      let P : Fault → Type 0 = λ v. strikes_at id begin point v ≡ false in
+      subst P (get_or_default order k no_fault d within)
+      (elim (cases_lt k first) [
+        | inl l ↦ calm_before f.node.0 f.begin f.item id.0 begin point (split.0 k no_fault (omega arith) l)
         | inr l ↦
             let there : first < length order = omega arith in
             calm_fault f.node.0 f.begin f.item id.0 begin point g.node.0 g.begin g.item
-            (sorted.rising first k d l within) (split.1 first d (omega arith) there) (other d there)
-      ]);
+            (sorted.rising first k no_fault l within) (split.1 first no_fault (omega arith) there) (other there)
+      ]));
 }
 
 -- where the order has none, the script has none

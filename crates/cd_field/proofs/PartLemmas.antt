@@ -1,15 +1,11 @@
 -- Lists of ranges in order, slots behind one another, and faults that strike.
-use Rattle.std.proofs.Common.{◌≡◌, ℕ, zero, suc, ◌+◌, ◌<◌, ◌≤◌, true, ◌&&◌, ◌||◌, nat_lt, ◌==◌, List, [], ◌∷◌, ◌++◌, length, get_or, All, Option, IsSome, arith, refl, subst, sym}
+use Rattle.std.proofs.Common.{◌≡◌, ℕ, zero, suc, ◌+◌, ◌<◌, ◌≤◌, true, ◌&&◌, ◌||◌, nat_lt, ◌==◌, List, [], ◌∷◌, ◌++◌, length, Option, IsSome, arith, refl, subst, sym}
 use Rattle.std.proofs.lemmas.Bool.{cond-true, cond-false, or_left, or_right}
 use Rattle.std.proofs.lemmas.Bool.Decides.{nat_tests}
-use Rattle.std.proofs.lemmas.List.Elements.{All-head, All-tail}
 use Rattle.cd_base.specs.declared.place.Place.{Place}
 use Rattle.cd_base.specs.declared.place.Range.{Range}
 use Rattle.cd_base.specs.Words.{Words, same_place, struck_word, in_range, in_ranges}
 use Rattle.cd_base.specs.Places.{is_before, IsBeforeAll, IsOrdered}
-use Rattle.cd_tree.specs.declared.domain.NodeId.{NodeId}
-use Rattle.cd_tree.specs.declared.document.Fault.{Fault}
-use Rattle.cd_tree.specs.Scripts.{strikes_at, struck}
 use Rattle.cd_field.specs.declared.flat_words.Slot.{Slot}
 use Rattle.cd_field.specs.Flat.{slot_at, range_at}
 use Rattle.cd_base.proofs.BoolLemmas.{by_test}

@@ -16,7 +16,7 @@ strikes_before id begin point fault = is_earlier fault.node.0 fault.begin fault.
 pub record IsInFaultOrder (faults : List Fault) : Type 0 where
   pub rising : (i j : ℕ) (d : Fault) → i ≤ j → j < length faults
       → is_earlier (slice_index_or faults j d).node.0 (slice_index_or faults j d).begin (slice_index_or faults j d).item
-        (slice_index_or faults i d).node.0 (slice_index_or faults i d).begin (slice_index_or faults i d).item ≡ false
+      (slice_index_or faults i d).node.0 (slice_index_or faults i d).begin (slice_index_or faults i d).item ≡ false
 
 -- at each point the same faults strike, in the same order
 pub record StrikeAlike (script order : List Fault) : Type 0 where

@@ -1,5 +1,5 @@
 // A script, and beside it its faults in order by domain, begin and point, in which a point finds its own by a search.
-ghost use Rattle.std.specs.Prelude.{◌≡◌, ◌≤◌, true, false, length, IfOk};
+ghost use Rattle.std.specs.Prelude.{◌≡◌, ◌≤◌, ◌&&◌, ◌==◌, true, false, length, IfOk};
 ghost use Rattle.std.specs.List.Sorted.{IsPartitionPoint, IsPartitionedBy};
 ghost use Rattle.cd_tree.specs.Scripts.{strikes_at, struck};
 ghost use Rattle.cd_field.specs.FaultOrder.{strikes_before, IsInFaultOrder, StrikeAlike, IsCalm};
@@ -94,8 +94,11 @@ fn has_begin(order: &[Fault], node: NodeId, begin: u64) -> bool
     ensures { result ≡ false → IsCalm order.now node begin }
 {
     let first = count_before(order, node, begin, 0);
-    match order.get(first) {
-        Some(fault) => fault.node.0 == node.0 && fault.begin == begin,
-        None => false,
-    }
+    first < order.len() && is_of(order[first], node, begin)
+}
+
+fn is_of(fault: Fault, node: NodeId, begin: u64) -> bool
+    ensures { result ≡ ((fault.node.0 == node.0) && (fault.begin == begin)) }
+{
+    fault.node.0 == node.0 && fault.begin == begin
 }

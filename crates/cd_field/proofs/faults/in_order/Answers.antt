@@ -1,5 +1,7 @@
-use Rattle.std.proofs.Common.{rules}
+use Rattle.std.proofs.Common.{rules, ◌≡◌, List, subst}
 use Rattle.std.proofs.lemmas.List.Sorted.{answers_always}
+use Rattle.cd_tree.specs.declared.document.Fault.{Fault}
+use Rattle.cd_field.specs.FaultOrder.{StrikeAlike}
 use Rattle.cd_field.proofs.FaultLemmas.{key_of, order_from_sort, alike_from_sort}
 use Rattle.cd_field.proofs.faults.in_order.Goals as goal
 
@@ -9,4 +11,8 @@ returns-clause-sorted c =
 
 pub returns-clause-alike : goal.returns-clause-alike
 returns-clause-alike c =
-    alike_from_sort _ _ (c.in_ok-sort_by_key.ensures.stable key_of (answers_always _ _ _ (λ f a r next called. search rules)))
+    let same : c.in_ok-order.order.items ≡ c.args.script.now = search rules in
+    let P : List Fault → Type 0 = λ v. StrikeAlike v c.sort_by_key.new.self.items in
+    subst P same
+    (alike_from_sort c.in_ok-order.order.items c.sort_by_key.new.self.items
+    (c.sort_by_key.ensures.stable key_of (answers_always _ _ _ (λ f a r next called. search rules))))

@@ -1,4 +1,4 @@
-use Rattle.std.proofs.Common.{◌≡◌, ◌∙◌, ℕ, List, IsSome}
+use Rattle.std.proofs.Common.{◌∙◌, ℕ, List, IsSome}
 use Rattle.std.proofs.lemmas.List.Elements.{All-get_or}
 use Rattle.cd_base.specs.Words.{Words}
 use Rattle.cd_tree.specs.declared.document.Fault.{Fault}
