@@ -2,8 +2,9 @@ mod PlaceLemmas
 mod StrikeLemmas
 pub mod RunLemmas
 mod WorkedRuns
-mod SlotRuns
-mod FlatLemmas
+mod HullLemmas
+mod CutLemmas
+mod LoadLemmas
 mod PartLemmas
 mod FaultLemmas
 mod EventLemmas

@@ -7,8 +7,8 @@ use Rattle.cd_field.specs.FieldModel.{FieldModel}
 
 abbrev pub flat_machine : ScriptField → FieldModel
 flat_machine field = record {
-  words = flat_words field.words.slots.items field.words.words.items;
-  lost = flat_lost field.words.slots.items field.words.away.items;
+  words = flat_words field.words;
+  lost = flat_lost field.words;
   events = events_of field.events.parts.parts.items field.events.latest.items;
   notes = field.notes;
   script = script_of field.faults;

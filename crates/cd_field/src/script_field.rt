@@ -6,7 +6,7 @@ ghost use Rattle.cd_field.specs.FieldModel.{loaded, words_in, ArePresent};
 
 use crate::Field;
 use crate::event_list::EventList;
-use crate::flat_parts::{first_flat, flat_part, mark_ranges, strike_flat, take_ranges, union_of};
+use crate::flat_parts::{first_flat, mark_ranges, strike_flat, take_ranges, union_of};
 use crate::flat_words::FlatWords;
 use crate::shared_faults::{SharedFaults, are_due, faults_of, hits, share_faults};
 use cd_base::{NoMemory, Place, Places, Range};
@@ -140,11 +140,11 @@ impl Field for ScriptField {
     fn carve(&mut self, reads: &Places, writes: &Places) -> Result<Self, NoMemory> {
         let reach = union_of(self.alloc, reads, writes)?;
         let mut part = ScriptField::empty(self.alloc);
-        part.words = flat_part(self.alloc, &self.words, reach.ranges())?;
+        part.words = self.words.part(self.alloc, reach.ranges())?;
         part.due = true;
         part.faults = share_faults(&self.faults)?;
         part.carved = writes.ranges().to_vec(self.alloc)?;
-        mark_ranges(&mut self.words, writes.ranges());
+        mark_ranges(&mut self.words, writes.ranges())?;
         Ok(part)
     }
 

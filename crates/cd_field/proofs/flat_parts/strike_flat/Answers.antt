@@ -9,15 +9,15 @@ use Rattle.cd_field.proofs.flat_parts.strike_flat.Goals as goal
 
 pub change_flat-requires : goal.change_flat-requires
 change_flat-requires c =
-    let w : Words = flat_words c.args.words.now.slots.items c.args.words.now.words.items in
+    let w : Words = flat_words c.args.words.now in
     c.loop-fault.invariant.known _ (All-get_or (λ fault. IsSome (w fault.place)) c.args.hits.now c.loop-fault.fault-index no_fault c.loop-fault-test.true c.requires)
 
 pub loop-fault-preserved : goal.loop-fault-preserved
 loop-fault-preserved c =
     let hits : List Fault = c.args.hits.now in
     let i : ℕ = c.loop-fault.fault-index in
-    let before : Words = flat_words c.loop-fault.words.slots.items c.loop-fault.words.words.items in
-    let after : Words = flat_words c.change_flat.new.words.slots.items c.change_flat.new.words.words.items in
+    let before : Words = flat_words c.loop-fault.words in
+    let after : Words = flat_words c.change_flat.new.words in
     record {
       words = words_one hits i no_fault before after c.loop-fault-test.true c.change_flat.ensures.words ∙ c.loop-fault.invariant.words;
       kinds = kinds_one hits i no_fault c.loop-fault.kinds c.with-kinds.result c.loop-fault-test.true c.with-kinds.ensures ∙ c.loop-fault.invariant.kinds;
