@@ -1,6 +1,6 @@
 -- Spans that hold ranges, hulls that are cut out along them, and hulls that are put last.
 use Rattle.std.proofs.Common.{◌≡◌, ℕ, ◌+◌, ◌-◌, ◌<◌, ◌≤◌, Bool, true, false, ◌&&◌, ◌||◌, nat_lt, nat_le, ◌==◌, if◌then◌else◌, List, [], ◌∷◌, ◌++◌, length, drop, get_or, set, replicate, min, max, None, Some, IsSome, arith, refl, ap, subst, sym, ◌∙◌, inl, inr}
-use Rattle.std.proofs.lemmas.List.{length-set, length-replicate, get_or_past, get_or-take, get_or-drop, get_or_append_left, get_or_push, drop_more, drop_all}
+use Rattle.std.proofs.lemmas.List.{length-append, set-get_or, length-set, length-replicate, get_or_past, get_or-take, get_or-drop, get_or_append_left, get_or_push, drop_more, drop_all}
 use Rattle.std.proofs.lemmas.Bool.{cases_lt, cond-true, cond-false, eqb-true}
 use Rattle.std.proofs.lemmas.Bool.Decides.{nat_tests}
 use Rattle.cd_base.specs.declared.place.Place.{Place}
@@ -172,6 +172,14 @@ all_held whole ranges i spans past holding = record {
 }
 
 -- ---- the cuts
+
+-- a hull of a list that is read and stays
+pub still_whole : (hulls : List HullModel) (i : ℕ) (old new : HullModel) → old ≡ get_or hulls i old → new ≡ old → set hulls i new ≡ hulls
+still_whole hulls i old new read same = ap (set hulls i) (same ∙ read) ∙ set-get_or hulls i old
+
+pub pushed_long : (hulls later : List HullModel) (hull : HullModel) (i : ℕ) → length hulls ≡ i → later ≡ hulls ++ hull ∷ [] → length later ≡ i + 1
+pushed_long hulls later hull i long is =
+    ap (λ (v : List HullModel). length v) is ∙ (let l : length (hulls ++ hull ∷ []) ≡ i + 1 = omega (arith, length-append hulls (hull ∷ []), long) in l)
 
 pub cut_more : (whole : List HullModel) (spans : List Span) (hulls later : List HullModel) (hull : HullModel) (i : ℕ) → length hulls ≡ i
     → later ≡ hulls ++ hull ∷ [] → hull ≡ cut (hull_at whole i) (span_at spans i)

@@ -2,6 +2,7 @@ mod PlaceLemmas
 mod StrikeLemmas
 pub mod RunLemmas
 mod WorkedRuns
+mod RegionLemmas
 mod HullLemmas
 mod CutLemmas
 mod LoadLemmas

@@ -11,13 +11,14 @@ use std::alloc::Global;
 /// The words of the places of some ranges. None of them is away.
 pub(crate) fn cut_hulls(
     alloc: Global,
-    whole: &[Hull],
+    whole: &mut Vec<Hull>,
     ranges: &[Range],
 ) -> Result<Vec<Hull>, NoMemory>
-    requires { AreCovered ranges.now whole.now }
+    requires { AreCovered ranges.now whole.old.items }
     ensures covered { IfOk result (λ hulls. AreCovered ranges.now hulls.items) }
-    ensures words { IfOk result (λ hulls. (q : _) → words_by ranges.now hulls.items q ≡ words_by ranges.now whole.now q) }
+    ensures words { IfOk result (λ hulls. (q : _) → words_by ranges.now hulls.items q ≡ words_by ranges.now whole.old.items q) }
     ensures lost { IfOk result (λ hulls. (q : _) → lost_by ranges.now hulls.items q ≡ false) }
+    ensures same { whole.new.items ≡ whole.old.items }
 {
     let spans = spans_of(alloc, whole, ranges)?;
     let hulls = cut_each(alloc, whole, &spans)?;
@@ -64,26 +65,28 @@ fn with_range(span: Span, range: Range) -> Span
     }
 }
 
-fn cut_each(alloc: Global, whole: &[Hull], spans: &[Span]) -> Result<Vec<Hull>, NoMemory>
-    requires long { length spans.now ≡ length whole.now }
-    requires within { (region : _) → (span_at spans.now region).low < (span_at spans.now region).high → HasRun (hull_at whole.now region) (span_at spans.now region).low (span_at spans.now region).high }
-    ensures { IfOk result (λ hulls. (region : _) → hull_at hulls.items region ≡ cut (hull_at whole.now region) (span_at spans.now region)) }
+fn cut_each(alloc: Global, whole: &mut Vec<Hull>, spans: &[Span]) -> Result<Vec<Hull>, NoMemory>
+    requires long { length spans.now ≡ length whole.old.items }
+    requires within { (region : _) → (span_at spans.now region).low < (span_at spans.now region).high → HasRun (hull_at whole.old.items region) (span_at spans.now region).low (span_at spans.now region).high }
+    ensures cuts { IfOk result (λ hulls. (region : _) → hull_at hulls.items region ≡ cut (hull_at whole.old.items region) (span_at spans.now region)) }
+    ensures same { whole.new.items ≡ whole.old.items }
 {
     let mut hulls = Vec::new(alloc);
-    for region in 0..whole.len() {
-        let hull = cut_one(alloc, &whole[region], spans[region])?;
+    for region in 0..spans.len() {
+        let hull = cut_one(alloc, &mut whole[region], spans[region])?;
         hulls.push(hull)?;
     }
     Ok(hulls)
 }
 
-fn cut_one(alloc: Global, hull: &Hull, span: Span) -> Result<Hull, NoMemory>
-    requires { span.low < span.high → HasRun hull.now span.low span.high }
-    ensures { IfOk result (λ part. part ≡ cut hull.now span) }
+fn cut_one(alloc: Global, hull: &mut Hull, span: Span) -> Result<Hull, NoMemory>
+    requires { span.low < span.high → HasRun hull.old span.low span.high }
+    ensures cut { IfOk result (λ part. part ≡ cut hull.old span) }
+    ensures same { hull.new ≡ hull.old }
 {
     if span.low < span.high {
-        let words = hull.run(span.low, span.high).to_vec(alloc)?;
-        Ok(Hull::of(alloc, span.low, words))
+        let part = hull.part(span.low, span.high)?;
+        Ok(part)
     } else {
         Ok(Hull::empty(alloc))
     }

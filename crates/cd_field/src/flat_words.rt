@@ -153,13 +153,15 @@ impl FlatWords {
         self.put_back_run(range, others.run(range));
     }
 
-    /// The words of some ranges alone. None of them is away.
-    pub(crate) fn part(&self, alloc: Global, ranges: &[Range]) -> Result<FlatWords, NoMemory>
-        requires { (q : _) → in_ranges ranges.now q ≡ true → IsSome (flat_words self.now q) }
-        ensures words { IfOk result (λ part. (q : _) → flat_words part q ≡ (if in_ranges ranges.now q then flat_words self.now q else None)) }
+    /// The words of some ranges alone, none of them away. Regions are shared as long as neither changes a word there.
+    pub(crate) fn part(&mut self, alloc: Global, ranges: &[Range]) -> Result<FlatWords, NoMemory>
+        requires { (q : _) → in_ranges ranges.now q ≡ true → IsSome (flat_words self.old q) }
+        ensures words { IfOk result (λ part. (q : _) → flat_words part q ≡ (if in_ranges ranges.now q then flat_words self.old q else None)) }
         ensures lost { IfOk result (λ part. (q : _) → flat_lost part q ≡ false) }
+        ensures still_words { (q : _) → flat_words self.new q ≡ flat_words self.old q }
+        ensures still_lost { (q : _) → flat_lost self.new q ≡ flat_lost self.old q }
     {
-        let hulls = cut_hulls(alloc, &self.hulls, ranges)?;
+        let hulls = cut_hulls(alloc, &mut self.hulls, ranges)?;
         let ranges = ranges.to_vec(alloc)?;
         Ok(FlatWords::of(ranges, hulls))
     }

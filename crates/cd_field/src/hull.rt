@@ -1,19 +1,24 @@
 // The words of one region that a machine has, from an index on, so that a word is found by its index alone.
-ghost use Rattle.std.specs.Prelude.{◌≡◌, ◌+◌, ◌-◌, ◌<◌, ◌≤◌, [], true, false, length, take, drop, replicate, slice_set, OnOk, OnErr};
+ghost use Rattle.std.specs.Prelude.{◌≡◌, ◌+◌, ◌-◌, ◌<◌, ◌≤◌, [], true, false, length, take, drop, replicate, slice_set, OnOk, OnErr, IfOk};
 ghost use Rattle.std.specs.List.{splice};
 ghost use Rattle.cd_field.specs.Hulls.{no_hull, HasIndex, HasRun, word_in, run_in, changed, run_laid, cleared, flags_cleared, run_cleared, flags_grown, run_marked};
 
+use crate::region_words::{RegionWords, copy, lay, list, put, share};
 use cd_base::NoMemory;
 use std::alloc::Global;
 use std::marker::Model;
+
+// So many words are copied rather than shared: a shared list takes more memory than they do.
+const FEW: usize = 64;
 
 /// Words of a region from an index on. Where the machine's ranges leave gaps, some are words of no place of it.
 #[derive(Drop)]
 pub(crate) struct Hull {
     low: u32,
-    words: Vec<u64>,
+    words: RegionWords,
     // Whether each word is away. There are no flags before a word is, so a machine that carves nothing has none.
     away: Vec<bool>,
+    alloc: Global,
 }
 
 impl Model for Hull {
@@ -21,7 +26,9 @@ impl Model for Hull {
 
     ghost Value = { HullModel };
 
-    ghost view = { λ hull. record { low = hull.low; words = hull.words.items; away = hull.away.items } };
+    ghost use Rattle.cd_field.specs.RegionWords.{words_held};
+
+    ghost view = { λ hull. record { low = hull.low; words = words_held hull.words; away = hull.away.items } };
 }
 
 impl Hull {
@@ -31,8 +38,9 @@ impl Hull {
     {
         Hull {
             low: 0,
-            words: Vec::new(alloc),
+            words: RegionWords::Own(Vec::new(alloc)),
             away: Vec::new(alloc),
+            alloc,
         }
     }
 
@@ -42,8 +50,9 @@ impl Hull {
     {
         Hull {
             low,
-            words,
+            words: RegionWords::Own(words),
             away: Vec::new(alloc),
+            alloc,
         }
     }
 
@@ -52,7 +61,7 @@ impl Hull {
         requires { HasIndex self.now index }
         ensures { result ≡ word_in self.now index }
     {
-        self.words[(index - self.low) as usize]
+        list(&self.words)[(index - self.low) as usize]
     }
 
     #[inline(always)]
@@ -61,7 +70,7 @@ impl Hull {
         ensures { self.new ≡ changed self.old index word }
     {
         let i = (index - self.low) as usize;
-        self.words[i] = word;
+        put(&mut self.words, self.alloc, i, word);
     }
 
     /// The words from one index to below another.
@@ -71,7 +80,7 @@ impl Hull {
         ensures { result.now ≡ run_in self.now low high }
     {
         let first = (low - self.low) as usize;
-        items(&self.words, first, (high - low) as usize)
+        items(list(&self.words), first, (high - low) as usize)
     }
 
     /// Changes the words from an index on to those of a list.
@@ -81,7 +90,7 @@ impl Hull {
         ensures { self.new ≡ run_laid self.old low run.now }
     {
         let first = (low - self.low) as usize;
-        lay(&mut self.words, first, run);
+        lay(&mut self.words, self.alloc, first, run);
     }
 
     /// A word is here.
@@ -104,6 +113,28 @@ impl Hull {
         clear(&mut self.away, from, to);
     }
 
+    /// The words from one index to below another for another machine. They are shared as long as neither changes them; few
+    /// words are copied at once.
+    pub(crate) fn part(&mut self, low: u32, high: u32) -> Result<Hull, NoMemory>
+        requires { HasRun self.old low high }
+        ensures part { IfOk result (λ part. part ≡ record { low = low; words = run_in self.old low high; away = [] }) }
+        ensures same { self.new ≡ self.old }
+    {
+        let first = (low - self.low) as usize;
+        let count = (high - low) as usize;
+        let words = if count <= FEW {
+            copy(&self.words, self.alloc, first, count)?
+        } else {
+            share(&mut self.words, self.alloc, first, count)?
+        };
+        Ok(Hull {
+            low,
+            words,
+            away: Vec::new(self.alloc),
+            alloc: self.alloc,
+        })
+    }
+
     /// The words from one index to below another are away.
     pub(crate) fn mark_run(&mut self, low: u32, high: u32) -> Result<(), NoMemory>
         requires { HasRun self.old low high }
@@ -111,7 +142,7 @@ impl Hull {
         ensures unchanged { OnErr result (self.new ≡ self.old) }
     {
         let first = (low - self.low) as usize;
-        grow(&mut self.away, self.words.len())?;
+        grow(&mut self.away, list(&self.words).len())?;
         fill(&mut self.away, first, (high - low) as usize, true);
         Ok(())
     }
@@ -124,16 +155,6 @@ fn items(words: &[u64], first: usize, count: usize) -> &[u64]
     ensures { result.now ≡ take count (drop first words.now) }
 {
     &words[first..first + count]
-}
-
-// Words laid over others from one on.
-#[inline(always)]
-fn lay(words: &mut Vec<u64>, first: usize, run: &[u64])
-    requires { first + length run.now ≤ length words.old.items }
-    ensures { words.new.items ≡ splice words.old.items first (first + length run.now) run.now }
-{
-    let end = first + run.len();
-    words[first..end].copy_from_slice(run);
 }
 
 // So many flags from one on become the same.

@@ -22,8 +22,10 @@ mod hull;
 mod hulls;
 mod loads;
 mod map_field;
+mod region_words;
 mod script_field;
 mod shared_faults;
+mod shared_words;
 mod spans;
 mod words;
 
