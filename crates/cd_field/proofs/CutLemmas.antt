@@ -194,17 +194,6 @@ cut_more whole spans hulls later hull i long is one each k short =
           get_or_push hulls hull no_hull k (long ∙ same) ∙ one ∙ ap (λ (n : ℕ). cut (hull_at whole n) (span_at spans n)) same
     ]
 
-pub cuts_all : (whole : List HullModel) (spans : List Span) (hulls : List HullModel) (i : ℕ) → length spans ≡ length whole → length whole ≤ i
-    → length hulls ≡ i → ((k : ℕ) → k < i → hull_at hulls k ≡ cut (hull_at whole k) (span_at spans k))
-    → (k : ℕ) → hull_at hulls k ≡ cut (hull_at whole k) (span_at spans k)
-cuts_all whole spans hulls i same past long each k =
-    elim (cases_lt k i) [
-      | inl l ↦ each k l
-      | inr l ↦
-          get_or_past hulls k no_hull (omega arith)
-          ∙ sym (ap (cut (hull_at whole k)) (get_or_past spans k no_span (omega arith)))
-    ]
-
 abbrev pub AreCuts : List HullModel → List Span → List HullModel → Type 0
 AreCuts whole spans hulls = (k : ℕ) → hull_at hulls k ≡ cut (hull_at whole k) (span_at spans k)
 

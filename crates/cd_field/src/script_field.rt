@@ -13,8 +13,9 @@ use cd_base::{NoMemory, Place, Places, Range};
 use cd_tree::{Event, Kinds, NodeId, Regions, Script};
 use std::alloc::Global;
 
-/// The shipped machine: its words stand in one flat list, with a table of its ranges, and its record in parts that are
-/// never copied.
+/// The shipped machine. Its words stand in a list for each region, found by the region's number; a part shares them with the
+/// machine that it was carved from until one of them changes there or here. The script is shared by all parts, and a record
+/// of many events is handed over in parts that are never copied.
 #[derive(Drop)]
 pub struct ScriptField {
     words: FlatWords,
