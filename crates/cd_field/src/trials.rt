@@ -212,7 +212,8 @@ fn part_of_board<F: Field>(field: &mut F, alloc: Global) -> Result<F, Fail>
     ensures rest { OnOk result (IsReady (F.model field.new)) }
 {
     let reads = whole_board(alloc)?;
-    let part = field.carve(&reads, &Places::new(alloc))?;
+    let none = Places::new(alloc);
+    let part = field.carve(&reads, &none)?;
     Ok(part)
 }
 
