@@ -2,8 +2,11 @@ mod PlaceLemmas
 mod StrikeLemmas
 pub mod RunLemmas
 mod WorkedRuns
-mod SlotRuns
-mod FlatLemmas
+mod RegionLemmas
+mod HullLemmas
+mod CutLemmas
+mod LoadLemmas
 mod PartLemmas
+mod FaultLemmas
 mod EventLemmas
 mod TrialLemmas

@@ -1,5 +1,5 @@
 -- Runs of words: read one by one into a list, and laid over a range one by one.
-use Rattle.std.proofs.Common.{◌≡◌, ℕ, ◌+◌, ◌-◌, ◌<◌, ◌≤◌, max, ◌&&◌, ◌||◌, nat_lt, nat_le, ◌==◌, Bool, false, if◌then◌else◌, List, [], ◌∷◌, length, map, set, get_or, Option, Some, unwrap_or, refl, ap, ap₂, sym, subst, ◌∙◌, arith, inl, inr}
+use Rattle.std.proofs.Common.{◌≡◌, ℕ, ◌+◌, ◌-◌, ◌<◌, ◌≤◌, max, ◌&&◌, ◌||◌, nat_lt, nat_le, ◌==◌, Bool, false, if◌then◌else◌, List, [], ◌∷◌, length, map, set, get_or, Option, None, Some, IsSome, unwrap_or, true, refl, ap, ap₂, sym, subst, ◌∙◌, arith, inl, inr}
 use Rattle.std.specs.List.{range_with_len}
 use Rattle.std.proofs.lemmas.Bool.{cases_lt, cond-true, cond-false, or_left}
 use Rattle.std.proofs.lemmas.Bool.Decides.{nat_tests}
@@ -13,6 +13,8 @@ use Rattle.cd_tree.specs.Operations.{length_of, nth_word}
 use Rattle.cd_field.specs.FieldModel.{FieldModel, ArePresent, refilled_word, laid, words_in, wrote_run, refilled_run}
 use Rattle.cd_base.proofs.BoolLemmas.{by_test}
 use Rattle.cd_field.proofs.PlaceLemmas.{choice_at, choice_or, range_none}
+use Rattle.cd_base.proofs.PlaceLemmas.{Inside, inside_from, place-same}
+use Rattle.cd_tree.specs.Meaning.{written}
 
 -- ---- reading
 
@@ -119,3 +121,25 @@ refilled_all m was r words i past most is =
     ∙ ap₂ (λ (w : Words) (l : PlaceSet). record was { words = w; lost = l })
     (fun_ext (span_end (word_for r words) was.words r i past most))
     (fun_ext (span_end (λ q. false) was.lost r i past most))
+
+-- words laid over a range that are the words of others there
+pub laid_others : (others old : Words) (r : Range) (run : List ℕ) (q : Place) → run ≡ words_in others r → ((p : Place) → in_range r p ≡ true → IsSome (others p))
+    → laid old r run q ≡ written (in_range r) others old q
+laid_others others old r run q is known =
+    by_test (in_range r q)
+    (λ t. let i : Inside r q = inside_from r q t in
+    let low : r.low ≤ q.index = i.low in
+    let high : q.index < r.high = i.high in
+    let back : r.low + (q.index - r.low) ≡ q.index = omega arith in
+    let same : record { region = r.region; index = q.index } ≡ q = place-same _ q i.region refl in
+    cond-true (in_range r q) (word_for r run q) (old q) t
+    ∙ ap (λ (n : ℕ). Some n) (word_read others r run is (q.index - r.low) (omega arith)
+    ∙ ap (λ (n : ℕ). unwrap_or (others (record { region = r.region; index = n })) 0) back
+    ∙ ap (λ (p : Place). unwrap_or (others p) 0) same)
+    ∙ some_of_known (others q) (known q t)
+    ∙ sym (cond-true (in_range r q) (others q) (old q) t))
+    (λ f. cond-false (in_range r q) (word_for r run q) (old q) f ∙ sym (cond-false (in_range r q) (others q) (old q) f))
+  where
+    some_of_known : (o : Option ℕ) → IsSome o → Some (unwrap_or o 0) ≡ o
+    some_of_known None some = absurd (cc)
+    some_of_known (Some n) some = refl

@@ -53,3 +53,24 @@ pub kinds_none : (faults : List Fault) (i : ℕ) (id : NodeId) (begin point kind
     → kinds ≡ bit_or kinds (kinds_of (struck (drop i faults) id begin point))
 kinds_none faults i id begin point kinds h =
     sym (or_zero_r kinds) ∙ ap (λ (fs : List Fault). bit_or kinds (kinds_of (struck fs id begin point))) (sym (drop_all i faults h))
+
+-- ---- faults that all strike, one by one
+
+abbrev pub no_fault : Fault
+no_fault = record { node = record { 0 = 0 }; begin = 0; item = 0; kind = record { 0 = 0 }; place = record { region = 0; index = 0 }; mask = 0 }
+
+pub words_one : (hits : List Fault) (i : ℕ) (d : Fault) (was now : Words) → i < length hits
+    → now ≡ struck_word was (get_or hits i d).place (get_or hits i d).mask
+    → words_struck (drop (i + 1) hits) now ≡ words_struck (drop i hits) was
+words_one hits i d was now short c =
+    ap (words_struck (drop (i + 1) hits)) c ∙ sym (ap (λ (fs : List Fault). words_struck fs was) (drop_more hits i d short))
+
+pub kinds_one : (hits : List Fault) (i : ℕ) (d : Fault) (was now : ℕ) → i < length hits → now ≡ with_kind was (get_or hits i d).kind
+    → bit_or now (kinds_of (drop (i + 1) hits)) ≡ bit_or was (kinds_of (drop i hits))
+kinds_one hits i d was now short c =
+    ap (λ (n : ℕ). bit_or n (kinds_of (drop (i + 1) hits))) c
+    ∙ bit_or-assoc was (only_kind (get_or hits i d).kind) (kinds_of (drop (i + 1) hits))
+    ∙ sym (ap (λ (fs : List Fault). bit_or was (kinds_of fs)) (drop_more hits i d short))
+
+pub kinds_all : (hits : List Fault) (i kinds : ℕ) → length hits ≤ i → kinds ≡ bit_or kinds (kinds_of (drop i hits))
+kinds_all hits i kinds past = sym (or_zero_r kinds) ∙ ap (λ (fs : List Fault). bit_or kinds (kinds_of fs)) (sym (drop_all i hits past))

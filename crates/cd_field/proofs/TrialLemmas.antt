@@ -10,7 +10,7 @@ use Rattle.cd_tree.specs.declared.domain.NodeId.{NodeId}
 use Rattle.cd_tree.specs.declared.document.Fault.{Fault}
 use Rattle.cd_tree.specs.declared.event.Event.{Event}
 use Rattle.cd_tree.specs.Scripts.{strikes_at, struck, words_struck}
-use Rattle.cd_field.specs.FieldModel.{FieldModel, ArePresent, IsPresent, begun, hits_at, part_of, reached_point, told, wrote}
+use Rattle.cd_field.specs.FieldModel.{FieldModel, ArePresent, IsPresent, begun, hits_at, part_of, reached_point, told, without, wrote}
 use Rattle.cd_field.specs.Trials.{board, IsAimed, IsReady}
 use Rattle.cd_base.proofs.BoolLemmas.{by_test, or-none}
 
@@ -64,7 +64,7 @@ ready_wrote m later at word is =
     ready_as m (wrote m at word) later is (λ p some. by_test (same_place at p) (λ t. rw t refl) (λ f. rw f some)) refl refl
 
 -- a part has what it writes
-in_board : (r i : ℕ) → ((0 == r) && (nat_le 2 i && nat_lt i 4)) ≡ true → ((0 == r) && (nat_le 0 i && nat_lt i 4)) ≡ true
+in_board : (r i : ℕ) → ((0 == r) && (nat_le 2 i && nat_lt i 4)) ≡ true → ((0 == r) && (nat_le 0 i && nat_lt i 100)) ≡ true
 in_board r i h = grind (arith, nat_tests)
 
 pub part_there : (m part : FieldModel) (reads writes : List Range)
@@ -76,3 +76,25 @@ part_there m part reads writes same is ready =
     let on_board : in_ranges board p ≡ true = or_left _ _ (in_board p.region p.index (sym (or-none _) ∙ h)) in
     let t : (in_ranges reads p || in_ranges writes p) ≡ true = or_right (in_ranges reads p) (in_ranges writes p) (same p ∙ h) in
     record { known = rw t (ready.each p on_board).known; here = refl })
+
+-- a part that reads the whole board has it, and where nothing is carved to be written the machine has it still
+pub whole_present : (m : FieldModel) (reads : List Range) → ((q : Place) → in_ranges reads q ≡ in_ranges board q) → IsReady m → ArePresent m reads
+whole_present m reads same ready p h = ready.each p (sym (same p) ∙ h)
+
+pub none_present : (m : FieldModel) (writes : List Range) → writes ≡ [] → ArePresent m writes
+none_present m writes is p h = let P : List Range → Type 0 = λ v. in_ranges v p ≡ true in let fail : P [] = subst P is h in absurd (cc)
+
+pub part_ready : (m part : FieldModel) (reads writes : List Range) → ((q : Place) → in_ranges reads q ≡ in_ranges board q)
+    → part ≡ part_of m reads writes → IsReady m → IsReady part
+part_ready m part reads writes same is ready =
+    let P : FieldModel → Type 0 = λ v. IsReady v in
+    subst P (sym is) (record {
+      each = λ p h.
+          let t : (in_ranges reads p || in_ranges writes p) ≡ true = or_left (in_ranges reads p) (in_ranges writes p) (same p ∙ h) in
+          record { known = rw t (ready.each p h).known; here = refl };
+      aimed = ready.aimed;
+    })
+
+pub rest_ready : (m later : FieldModel) (writes : List Range) → writes ≡ [] → later ≡ without m writes → IsReady m → IsReady later
+rest_ready m later writes none is =
+    ready_as m (without m []) later (is ∙ ap (without m) none) (λ p some. some) refl refl

@@ -2,15 +2,16 @@
 use Rattle.cd_field.specs.declared.script_field.ScriptField.{ScriptField}
 use Rattle.cd_field.specs.Flat.{flat_words, flat_lost}
 use Rattle.cd_field.specs.EventLists.{events_of}
+use Rattle.cd_field.specs.SharedFaults.{script_of}
 use Rattle.cd_field.specs.FieldModel.{FieldModel}
 
 abbrev pub flat_machine : ScriptField → FieldModel
 flat_machine field = record {
-  words = flat_words field.words.slots.items field.words.words.items;
-  lost = flat_lost field.words.slots.items field.words.away.items;
+  words = flat_words field.words;
+  lost = flat_lost field.words;
   events = events_of field.events.parts.parts.items field.events.latest.items;
   notes = field.notes;
-  script = field.script.items;
+  script = script_of field.faults;
   node = field.node;
   begin = field.begin;
   carved = field.carved.items;

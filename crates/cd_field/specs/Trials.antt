@@ -6,9 +6,9 @@ use Rattle.cd_base.specs.Words.{in_ranges}
 use Rattle.cd_tree.specs.declared.document.Fault.{Fault}
 use Rattle.cd_field.specs.FieldModel.{FieldModel, IsPresent}
 
--- four words and two
+-- a hundred words and two
 abbrev pub board : List Range
-board = record { region = 0; low = 0; high = 4 } ∷ record { region = 1; low = 0; high = 2 } ∷ []
+board = record { region = 0; low = 0; high = 100 } ∷ record { region = 1; low = 0; high = 2 } ∷ []
 
 -- a fault strikes on the board
 abbrev pub IsAimed : Fault → Type 0

@@ -1,4 +1,4 @@
-// The board that the tests run on, four words and two, and what is expected of a machine that has it.
+// The board that the tests run on, a hundred words and two, and what is expected of a machine that has it.
 ghost use Rattle.std.specs.Prelude.{◌≡◌, ◌<◌, true, [], ◌∷◌, All, IsSome, OnOk, IfOk};
 ghost use Rattle.cd_base.specs.Words.{in_ranges};
 ghost use Rattle.cd_tree.specs.Meaning.{initial};
@@ -31,14 +31,32 @@ pub(crate) fn places(alloc: Global, low: u32, high: u32) -> Result<Places, Fail>
     Ok(places)
 }
 
-// Four words of a pattern, and the words 3 and 5.
+/// The whole board.
+pub(crate) fn whole_board(alloc: Global) -> Result<Places, Fail>
+    ensures { IfOk result (λ places. (q : _) → in_ranges places q ≡ in_ranges board q) }
+{
+    let mut places = Places::new(alloc);
+    places.add(Range {
+        region: 0,
+        low: 0,
+        high: 100,
+    })?;
+    places.add(Range {
+        region: 1,
+        low: 0,
+        high: 2,
+    })?;
+    Ok(places)
+}
+
+// A hundred words of a pattern, and the words 3 and 5.
 fn two_regions(alloc: Global, first: Pattern) -> Result<Regions, Fail>
     ensures { IfOk result (λ regions. (p : _) → in_ranges board p ≡ true → IsSome (initial regions p)) }
 {
     let mut regions = Items::new(alloc);
     regions.push(Region {
         name: Text::of(alloc, "a")?,
-        length: 4,
+        length: 100,
         pattern: first,
     })?;
     regions.push(Region {
@@ -49,7 +67,7 @@ fn two_regions(alloc: Global, first: Pattern) -> Result<Regions, Fail>
     Ok(regions)
 }
 
-/// A machine with the board, whose four words are of a pattern.
+/// A machine with the board, whose first words are of a pattern.
 pub(crate) fn load_board<F: Field>(
     field: &mut F,
     alloc: Global,
@@ -78,7 +96,7 @@ pub(crate) fn fault(begin: u64, item: u32, kind: u8, index: u32, mask: u64) -> F
     }
 }
 
-/// The four words and the two.
+/// The first four words and the two.
 pub(crate) fn look<F: Field>(field: &F) -> ([u64; 4], [u64; 2])
     requires { IsReady (F.model field.now) }
 {

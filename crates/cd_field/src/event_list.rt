@@ -117,11 +117,16 @@ impl EventList {
         Ok(())
     }
 
-    /// Puts the events of another list behind those of this one. Neither list's events are copied.
+    /// Puts the events of another list behind those of this one. Full parts are only ever moved; where both lists have few
+    /// events they become one part.
     pub(crate) fn append(&mut self, other: EventList) -> Result<(), NoMemory>
         ensures { OnOk result (events_of self.new.parts.parts.items self.new.latest.items ≡ events_of self.old.parts.parts.items self.old.latest.items ++ events_of other.parts.parts.items other.latest.items) }
     {
         let EventList { parts, latest, .. } = other;
+        if parts.parts.is_empty() && self.latest.len() + latest.len() <= FULL {
+            self.latest.extend_from_slice(latest.as_slice())?;
+            return Ok(());
+        }
         self.close()?;
         add_parts(&mut self.parts, parts)?;
         self.latest = latest;

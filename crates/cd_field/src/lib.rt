@@ -12,12 +12,21 @@
 //! the record before it, so what an equation does not name stays.
 #![tactic(auto)]
 
+mod cuts;
 mod event_list;
+mod faults;
 mod field;
 mod flat_parts;
 mod flat_words;
+mod hull;
+mod hulls;
+mod loads;
 mod map_field;
+mod region_words;
 mod script_field;
+mod shared_faults;
+mod shared_words;
+mod spans;
 mod words;
 
 pub use field::Field;

@@ -1,31 +1,39 @@
 // The machine that the program ships.
-ghost use Rattle.std.specs.Prelude.{◌≡◌, [], ◌∷◌, IsSome, IfSome};
+ghost use Rattle.std.specs.Prelude.{◌≡◌, [], ◌∷◌, false, IsSome, IfSome};
+ghost use Rattle.cd_field.specs.FaultOrder.{IsCalm};
+ghost use Rattle.cd_field.specs.SharedFaults.{script_of};
 ghost use Rattle.cd_field.specs.FieldModel.{loaded, words_in, ArePresent};
-ghost use Rattle.cd_field.specs.FlatMachine.{flat_machine};
 
 use crate::Field;
 use crate::event_list::EventList;
-use crate::flat_parts::{first_flat, flat_part, mark_ranges, strike_flat, take_ranges, union_of};
+use crate::flat_parts::{first_flat, mark_ranges, strike_flat, take_ranges, union_of};
 use crate::flat_words::FlatWords;
+use crate::shared_faults::{SharedFaults, are_due, faults_of, hits, share_faults};
 use cd_base::{NoMemory, Place, Places, Range};
-use cd_tree::{Event, Fault, Kinds, NodeId, Regions, Script};
+use cd_tree::{Event, Kinds, NodeId, Regions, Script};
 use std::alloc::Global;
 
-/// The shipped machine: its words stand in one flat list, with a table of its ranges, and its record in parts that are
-/// never copied.
+/// The shipped machine. Its words stand in a list for each region, found by the region's number; a part shares them with the
+/// machine that it was carved from until one of them changes there or here. The script is shared by all parts, and a record
+/// of many events is handed over in parts that are never copied.
 #[derive(Drop)]
 pub struct ScriptField {
     words: FlatWords,
     events: EventList,
     notes: Kinds,
-    script: Vec<Fault>,
+    faults: SharedFaults,
     node: NodeId,
     begin: u64,
+    // Whether faults may be due at this begin; where none are, a point looks for none.
+    due: bool,
     carved: Vec<Range>,
     alloc: Global,
+    ghost calm: { due ≡ false → IsCalm (script_of faults) node begin },
 }
 
 impl ScriptField {
+    ghost use Rattle.cd_field.specs.FlatMachine.{flat_machine};
+
     /// The machine as it is loaded from no regions and no faults. It takes no memory.
     pub fn empty(alloc: Global) -> ScriptField
         ensures { flat_machine result ≡ loaded [] [] }
@@ -34,9 +42,10 @@ impl ScriptField {
             words: FlatWords::new(alloc),
             events: EventList::new(alloc),
             notes: Kinds::none(),
-            script: Vec::new(alloc),
+            faults: None,
             node: NodeId(0),
             begin: 0,
+            due: true,
             carved: Vec::new(alloc),
             alloc,
         }
@@ -50,19 +59,22 @@ impl Field for ScriptField {
 
     fn load(&mut self, regions: &Regions, script: &Script) -> Result<(), NoMemory> {
         let words = first_flat(self.alloc, regions.items())?;
-        let script = script.items().to_vec(self.alloc)?;
+        let faults = faults_of(self.alloc, script.items())?;
         let mut field = ScriptField::empty(self.alloc);
         field.words = words;
-        field.script = script;
+        field.due = true;
+        field.faults = faults;
         *self = field;
         Ok(())
     }
 
     fn begin(&mut self, node: NodeId, number: u64) -> Result<(), NoMemory> {
         self.events.push(Event::Begin { node, number })?;
+        let due = are_due(&self.faults, node, number);
         self.notes = Kinds::none();
         self.node = node;
         self.begin = number;
+        self.due = due;
         Ok(())
     }
 
@@ -98,14 +110,11 @@ impl Field for ScriptField {
     fn reached(&mut self, point: u32) -> Result<(), NoMemory> {
         let node = self.node;
         self.events.push(Event::Reached { node, point })?;
-        let kinds = strike_flat(
-            &mut self.words,
-            self.script.as_slice(),
-            node,
-            self.begin,
-            point,
-        );
-        self.notes = self.notes.union(kinds);
+        if self.due {
+            let struck = hits(&self.faults, node, self.begin, point);
+            let kinds = strike_flat(&mut self.words, struck);
+            self.notes = self.notes.union(kinds);
+        }
         Ok(())
     }
 
@@ -132,10 +141,11 @@ impl Field for ScriptField {
     fn carve(&mut self, reads: &Places, writes: &Places) -> Result<Self, NoMemory> {
         let reach = union_of(self.alloc, reads, writes)?;
         let mut part = ScriptField::empty(self.alloc);
-        part.words = flat_part(self.alloc, &self.words, reach.ranges())?;
-        part.script = self.script.as_slice().to_vec(self.alloc)?;
+        part.words = self.words.part(self.alloc, reach.ranges())?;
+        part.due = true;
+        part.faults = share_faults(&self.faults)?;
         part.carved = writes.ranges().to_vec(self.alloc)?;
-        mark_ranges(&mut self.words, writes.ranges());
+        mark_ranges(&mut self.words, writes.ranges())?;
         Ok(part)
     }
 

@@ -3,9 +3,9 @@ ghost use Rattle.std.specs.Prelude.{◌≡◌, ◌<◌, true, All, OnOk, IfOk};
 ghost use Rattle.cd_base.specs.Words.{in_ranges};
 ghost use Rattle.cd_field.specs.Trials.{board, IsAimed, IsReady};
 
-use crate::board::{fault, load_board, look, places};
+use crate::board::{fault, load_board, look, places, whole_board};
 use crate::{Field, MapField, ScriptField};
-use cd_base::{Items, Pattern, Place, Range};
+use cd_base::{Items, Pattern, Place, Places, Range};
 use cd_tree::{Kept, Kind, NodeId, Script};
 use std::alloc::Global;
 use std::test::Fail;
@@ -175,8 +175,8 @@ fn same_event<F: Field, G: Field>(field: &F, other: &G, k: u64) -> Result<bool, 
     }
 }
 
-// Both machines give the same: the words, the notes, and the events from a number on, up to one that neither has. A step
-// tells at most three. Gives the number of events.
+// Both machines give the same: the words, the notes, and the events from a number on, up to one that neither has. A turn
+// tells at most six. Gives the number of events.
 fn agree<F: Field, G: Field>(field: &F, other: &G, from: u64) -> Result<u64, Fail>
     requires one { IsReady (F.model field.now) }
     requires both { IsReady (G.model other.now) }
@@ -185,7 +185,7 @@ fn agree<F: Field, G: Field>(field: &F, other: &G, from: u64) -> Result<u64, Fai
         return Err(Fail::new(format_args!("words or notes after {from} events")));
     }
     let mut count = from;
-    for _more in 0..4 {
+    for _more in 0..8 {
         if !same_event(field, other, count)? {
             return Ok(count);
         }
@@ -205,7 +205,81 @@ fn agree_at_the_end<F: Field, G: Field>(field: &F, other: &G, count: u64) -> Res
     Ok(())
 }
 
-// Each turn makes one call on both machines. At the end the whole record is compared once more.
+// A part that reads the whole board and was carved to write nothing.
+fn part_of_board<F: Field>(field: &mut F, alloc: Global) -> Result<F, Fail>
+    requires { IsReady (F.model field.old) }
+    ensures part { IfOk result (λ part. IsReady (F.model part)) }
+    ensures rest { OnOk result (IsReady (F.model field.new)) }
+{
+    let reads = whole_board(alloc)?;
+    let none = Places::new(alloc);
+    let part = field.carve(&reads, &none)?;
+    Ok(part)
+}
+
+// One call on both machines.
+fn step_both<F: Field, G: Field>(
+    alloc: Global,
+    field: &mut F,
+    other: &mut G,
+    random: u64,
+) -> Result<(), Fail>
+    requires one { IsReady (F.model field.old) }
+    requires both { IsReady (G.model other.old) }
+    ensures one { OnOk result (IsReady (F.model field.new)) }
+    ensures both { OnOk result (IsReady (G.model other.new)) }
+{
+    step(field, alloc, random)?;
+    step(other, alloc, random)?;
+    Ok(())
+}
+
+// Parts of both machines, and parts of those, have the same words as they: then a part, its part and the machine change, each
+// alone, and what the others see stays.
+fn share_both<F: Field, G: Field>(
+    alloc: Global,
+    field: &mut F,
+    other: &mut G,
+    random: u64,
+) -> Result<(), Fail>
+    requires one { IsReady (F.model field.old) }
+    requires both { IsReady (G.model other.old) }
+    ensures one { OnOk result (IsReady (F.model field.new)) }
+    ensures both { OnOk result (IsReady (G.model other.new)) }
+{
+    let mut part = part_of_board(field, alloc)?;
+    let mut twin = part_of_board(other, alloc)?;
+    let mut low_part = part_of_board(&mut part, alloc)?;
+    let mut low_twin = part_of_board(&mut twin, alloc)?;
+    step_both(alloc, &mut part, &mut twin, next(random))?;
+    agree(&low_part, &low_twin, 0)?;
+    step_both(alloc, field, other, next(next(random)))?;
+    agree(&part, &twin, 0)?;
+    step_both(alloc, &mut low_part, &mut low_twin, random)?;
+    agree(&low_part, &low_twin, 0)?;
+    agree(&part, &twin, 0)?;
+    Ok(())
+}
+
+// A turn makes one call on both machines; some share their words with parts first.
+fn turn_both<F: Field, G: Field>(
+    alloc: Global,
+    field: &mut F,
+    other: &mut G,
+    random: u64,
+) -> Result<(), Fail>
+    requires one { IsReady (F.model field.old) }
+    requires both { IsReady (G.model other.old) }
+    ensures one { OnOk result (IsReady (F.model field.new)) }
+    ensures both { OnOk result (IsReady (G.model other.new)) }
+{
+    if pick(random, 1 << 20, 8) == 0 {
+        share_both(alloc, field, other, random)?;
+    }
+    step_both(alloc, field, other, random)
+}
+
+// Each turn compares both machines. At the end the whole record is compared once more.
 fn run_both<F: Field, G: Field>(alloc: Global, field: &mut F, other: &mut G) -> Result<(), Fail> {
     let script = five_faults(alloc)?;
     load_board(field, alloc, Pattern::Mix(9), &script)?;
@@ -214,8 +288,7 @@ fn run_both<F: Field, G: Field>(alloc: Global, field: &mut F, other: &mut G) -> 
     let mut count = 0;
     for _turn in 0..TURNS {
         random = next(random);
-        step(field, alloc, random)?;
-        step(other, alloc, random)?;
+        turn_both(alloc, field, other, random)?;
         count = agree(field, other, count)?;
     }
     agree_at_the_end(field, other, count)

@@ -10,14 +10,14 @@ use Rattle.cd_field.specs.FieldModel.{FieldModel, IsPresent, ArePresent, part_of
 use Rattle.cd_speed.specs.Timed.{HasRegions, IsInside}
 
 -- a place of a range in the regions
-place_inside : (from : ℕ) (r : Range) (p : Place) → IsInside from r → in_range r p ≡ true → (from ≤ p.region) × (p.region < 6) × (p.index < 330002)
+pub place_inside : (from : ℕ) (r : Range) (p : Place) → IsInside from r → in_range r p ≡ true → (from ≤ p.region) × (p.region < 6) × (p.index < 330002)
 place_inside from r p inside h =
     let first : from ≤ r.region = inside.first in
     let region : r.region < 6 = inside.region in
     let high : r.high ≤ 330002 = inside.high in
     (grind (arith, nat_tests), grind (arith, nat_tests), grind (arith, nat_tests))
 
-by_test : {P : Type 0} (b : Bool) → (b ≡ true → P) → (b ≡ false → P) → P
+pub by_test : {P : Type 0} (b : Bool) → (b ≡ true → P) → (b ≡ false → P) → P
 by_test {P} b when unless = elim (cases_Bool b) [ inl e ↦ when e | inr e ↦ unless e ]
 
 pub all_present : (m : FieldModel) (from : ℕ) (ranges : List Range) → HasRegions m from → All (IsInside from) ranges → ArePresent m ranges
@@ -82,11 +82,11 @@ pub as_present : (m : FieldModel) (set ranges : List Range) → ((q : Place) →
     → ArePresent m set
 as_present m set ranges same present p h = present p (sym (same p) ∙ h)
 
-five_have : (region index : ℕ) → 1 ≤ region → region < 6 → index < 330002
+pub five_have : (region index : ℕ) → 1 ≤ region → region < 6 → index < 330002
     → in_ranges five_regions (record { region = region; index = index }) ≡ true
 five_have region index first below short = grind (arith, nat_tests)
 
-or_right : (a b : Bool) → b ≡ true → (a || b) ≡ true
+pub or_right : (a b : Bool) → b ≡ true → (a || b) ≡ true
 or_right true b e = refl
 or_right false b e = e
 

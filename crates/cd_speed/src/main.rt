@@ -1,10 +1,12 @@
 //! A program that measures: it runs one operation some number of times, on a machine (`field OP TURNS`), on a part that is
 //! carved out of one (`part OP TURNS`) or as a plain loop over slices (`slice OP TURNS`), and prints a sum of words that the
-//! turns gave, which is the same for all. It has no clock: `bench/operations.sh` takes the time of many turns and of few.
+//! turns gave, which is the same for all. `hand word TURNS` and `hand region TURNS` carve out and take back a part that reads
+//! five regions and writes one word or a region; `copy region TURNS` copies a region's words there and back. It has no clock: `bench/operations.sh` takes the time of many turns and of few.
 #![tactic(auto)]
 
 mod machine;
 mod operations;
+mod parts;
 mod plain;
 
 use cd_base::NoMemory;
@@ -26,6 +28,8 @@ enum Way {
     Field,
     Part,
     Slice,
+    Hand,
+    Copy,
 }
 
 fn main(rt: HostRuntime) -> ExitCode {
@@ -68,6 +72,10 @@ fn way_of(word: &str) -> Option<Way> {
         Some(Way::Part)
     } else if word == "slice" {
         Some(Way::Slice)
+    } else if word == "hand" {
+        Some(Way::Hand)
+    } else if word == "copy" {
+        Some(Way::Copy)
     } else {
         None
     }
@@ -75,13 +83,31 @@ fn way_of(word: &str) -> Option<Way> {
 
 // The sum that the turns give, where there is an operation of this name.
 fn sum_of_turns(alloc: Global, way: Way, name: &str, turns: u32) -> Result<Option<u64>, NoMemory> {
+    let count = if name == "word" {
+        1
+    } else {
+        operations::LENGTH
+    };
+    match way {
+        Way::Hand => Ok(Some(machine::first_of_hands(alloc, count, turns)?)),
+        Way::Copy => Ok(Some(plain::first_of_copies(alloc, count, turns)?)),
+        Way::Field | Way::Part | Way::Slice => sum_of_operation(alloc, way, name, turns),
+    }
+}
+
+fn sum_of_operation(
+    alloc: Global,
+    way: Way,
+    name: &str,
+    turns: u32,
+) -> Result<Option<u64>, NoMemory> {
     let Some(op) = operations::named(name) else {
         return Ok(None);
     };
     let sum = match way {
         Way::Field => machine::sum_of_turns(alloc, op, turns)?,
         Way::Part => machine::sum_of_part(alloc, op, turns)?,
-        Way::Slice => Some(plain::sum_of_turns(alloc, op, turns)?),
+        Way::Slice | Way::Hand | Way::Copy => Some(plain::sum_of_turns(alloc, op, turns)?),
     };
     Ok(sum)
 }

@@ -192,3 +192,17 @@ fn row(start: u64, end: u64, columns: &[u64], values: &[u64], x: &[u64]) -> u64 
     }
     sum
 }
+
+/// Copies so many words there and back, so many times.
+pub(crate) fn first_of_copies(alloc: Global, count: u32, turns: u32) -> Result<u64, NoMemory> {
+    let mut here = vec![in alloc; 7; count as usize]?;
+    let mut there = vec![in alloc; 0; count as usize]?;
+    for turn in 0..turns {
+        copy(&mut there, &here);
+        if let Some(word) = there.first_mut() {
+            *word = u64::from(turn);
+        }
+        copy(&mut here, &there);
+    }
+    Ok(here.first().copied().unwrap_or(0))
+}

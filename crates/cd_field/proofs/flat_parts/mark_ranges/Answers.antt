@@ -4,6 +4,6 @@ use Rattle.cd_field.proofs.flat_parts.mark_ranges.Goals as goal
 
 pub mark_range-requires : goal.mark_range-requires
 mark_range-requires c q h =
-    still_known (flat_words c.loop-range.words.slots.items c.loop-range.words.words.items)
-    (flat_words c.args.words.now.slots.items c.args.words.now.words.items) q (c.loop-range.invariant.words q)
+    still_known (flat_words c.loop-range.words)
+    (flat_words c.args.words.now) q (c.loop-range.invariant.words q)
     (c.requires q (in_nth c.args.ranges.now c.loop-range.range-index q c.loop-range-test.true h))

@@ -6,7 +6,7 @@ use Rattle.cd_field.proofs.flat_parts.mark_ranges.Given as goal
 
 abbrev pub invariant-loop-range : goal.invariant-loop-range
 invariant-loop-range l = record {
-  words : (q : Place) → flat_words l.words.slots.items l.words.words.items q ≡ flat_words l.initial.words.slots.items l.initial.words.words.items q;
-  lost : (q : Place) → (in_ranges (drop l.range-index l.ranges) q || flat_lost l.words.slots.items l.words.away.items q)
-      ≡ (in_ranges l.ranges q || flat_lost l.initial.words.slots.items l.initial.words.away.items q);
+  words : (q : Place) → flat_words l.words q ≡ flat_words l.initial.words q;
+  lost : (q : Place) → (in_ranges (drop l.range-index l.ranges) q || flat_lost l.words q)
+      ≡ (in_ranges l.ranges q || flat_lost l.initial.words q);
 }

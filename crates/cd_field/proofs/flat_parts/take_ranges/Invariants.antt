@@ -7,9 +7,9 @@ use Rattle.cd_field.proofs.flat_parts.take_ranges.Given as goal
 
 abbrev pub invariant-loop-range : goal.invariant-loop-range
 invariant-loop-range l = record {
-  known : (q : Place) → in_ranges l.ranges q ≡ true → IsSome (flat_words l.words.slots.items l.words.words.items q);
-  words : (q : Place) → written (in_ranges (drop l.range-index l.ranges)) (flat_words l.others.slots.items l.others.words.items) (flat_words l.words.slots.items l.words.words.items) q
-      ≡ written (in_ranges l.ranges) (flat_words l.others.slots.items l.others.words.items) (flat_words l.initial.words.slots.items l.initial.words.words.items) q;
-  lost : (q : Place) → (if in_ranges (drop l.range-index l.ranges) q then false else flat_lost l.words.slots.items l.words.away.items q)
-      ≡ (if in_ranges l.ranges q then false else flat_lost l.initial.words.slots.items l.initial.words.away.items q);
+  known : (q : Place) → in_ranges l.ranges q ≡ true → IsSome (flat_words l.words q);
+  words : (q : Place) → written (in_ranges (drop l.range-index l.ranges)) (flat_words l.others) (flat_words l.words) q
+      ≡ written (in_ranges l.ranges) (flat_words l.others) (flat_words l.initial.words) q;
+  lost : (q : Place) → (if in_ranges (drop l.range-index l.ranges) q then false else flat_lost l.words q)
+      ≡ (if in_ranges l.ranges q then false else flat_lost l.initial.words q);
 }

@@ -1,24 +1,31 @@
-use Rattle.std.proofs.Common.{◌≡◌, ◌<◌, ◌∙◌, ℕ, List, ap, subst, sym, get_or, take, drop}
+use Rattle.std.proofs.Common.{◌≡◌, ◌<◌, ◌∙◌, ℕ, List, length, ap, subst, sym, get_or}
 use Rattle.cd_tree.specs.Operations.{length_of, nth_word}
-use Rattle.cd_field.specs.declared.flat_words.Slot.{Slot}
-use Rattle.cd_field.specs.Flat.{flat_words}
+use Rattle.cd_field.specs.Hulls.{HullModel, hull_at, HasRun, run_in, words_by}
 use Rattle.cd_field.proofs.RunLemmas.{read_all}
-use Rattle.cd_field.proofs.SlotRuns.{run_word, taken_long}
+use Rattle.cd_field.proofs.HullLemmas.{run_known, run_words, run_long}
 use Rattle.cd_field.proofs.flat_words.FlatWords.run.Goals as goal
+
+pub run_of-requires-clause-run : goal.run_of-requires-clause-run
+run_of-requires-clause-run c =
+    let P : List HullModel → Type 0 = λ v. HasRun (hull_at v c.args.range.region) c.args.range.low c.args.range.high in
+    subst P (sym c.deref.ensures.value)
+    (run_known c.args.self.now.ranges.items c.args.self.now.hulls.items c.args.range c.args.self.now.covered c.requires c.if-range.true)
 
 pub returns-then-range-clause-long : goal.returns-then-range-clause-long
 returns-then-range-clause-long c =
-    taken_long c.args.self.now.words.items c.items.result.now (length_of c.args.range) c.run_index-first.result
-    (c.items.ensures ∙ ap (λ (v : List ℕ). take (length_of c.args.range) (drop c.run_index-first.result v)) c.deref.ensures.value)
-    c.run_index-first.ensures.within.0
+    let hulls : List HullModel = c.args.self.now.hulls.items in
+    let r = c.args.range in
+    ap (λ (v : List ℕ). length v) (c.run_of.ensures ∙ ap (λ (v : List HullModel). run_in (hull_at v r.region) r.low r.high) c.deref.ensures.value)
+    ∙ run_long (hull_at hulls r.region) r.low r.high
+    (run_known c.args.self.now.ranges.items hulls r c.args.self.now.covered c.requires c.if-range.true)
 
 pub returns-then-range-clause-words : goal.returns-then-range-clause-words
 returns-then-range-clause-words c =
-    let slots : List Slot = c.args.self.now.slots.items in
-    let words : List ℕ = c.args.self.now.words.items in
-    let first : ℕ = c.run_index-first.result in
-    let is : c.items.result.now ≡ take (length_of c.args.range) (drop first words) =
-    c.items.ensures ∙ ap (λ (v : List ℕ). take (length_of c.args.range) (drop first v)) c.deref.ensures.value in
-    let P : List ℕ → Type 0 = λ v. (j : ℕ) → j < length_of c.args.range → get_or v j 0 ≡ nth_word (flat_words slots words) c.args.range j in
-    read_all (flat_words slots words) c.args.range c.items.result.now (returns-then-range-clause-long c)
-    (subst P (sym is) (run_word slots words c.args.range first c.args.self.now.order c.requires c.run_index-first.ensures.stands))
+    let hulls : List HullModel = c.args.self.now.hulls.items in
+    let ranges = c.args.self.now.ranges.items in
+    let r = c.args.range in
+    let is : c.run_of.result.now ≡ run_in (hull_at hulls r.region) r.low r.high =
+    c.run_of.ensures ∙ ap (λ (v : List HullModel). run_in (hull_at v r.region) r.low r.high) c.deref.ensures.value in
+    let P : List ℕ → Type 0 = λ v. (j : ℕ) → j < length_of r → get_or v j 0 ≡ nth_word (words_by ranges hulls) r j in
+    read_all (words_by ranges hulls) r c.run_of.result.now (returns-then-range-clause-long c)
+    (subst P (sym is) (λ j short. run_words ranges hulls r j c.args.self.now.covered c.requires c.if-range.true short))
