@@ -1,12 +1,12 @@
 -- What a step leaves of a pass that does not make it: three ways in which a block may change for it.
-use Rattle.std.proofs.Common.{◌≡◌, ℕ, ◌+◌, ◌<◌, ◌≤◌, List, [], ◌∷◌, length, Some, sym, ap, ◌∙◌, subst, arith, le_of_lt, le_refl, le_trans, le_of_eq}
+use Rattle.std.proofs.Common.{◌≡◌, ℕ, ◌<◌, ◌≤◌, List, [], ◌∷◌, length, Some, sym, ◌∙◌, subst, arith, le_of_lt, le_trans, le_of_eq}
 use Rattle.cd_keep.specs.declared.keep_id.KeepId.{KeepId}
 use Rattle.cd_lease.specs.declared.view.Piece.{Piece}
 use Rattle.cd_lease.specs.declared.view.Miss.{Miss}
 use Rattle.cd_lease.specs.declared.view.View.{View}
 use Rattle.cd_lease.specs.Control.{serial_in, word_in, Begins}
-use Rattle.cd_lease.specs.Views.{times, ids_of, fills_of, holds_in, fills_in}
-use Rattle.cd_lease.specs.Rule.{IsHeld, IsKnown, IsFilled, IsMissed, AllMissed, Stands}
+use Rattle.cd_lease.specs.Views.{times, ids_of, holds_in, fills_in}
+use Rattle.cd_lease.specs.Rule.{IsHeld, IsKnown, IsFilled, AllMissed, Stands}
 use Rattle.cd_lease.proofs.Counting.{held_in_block, fills_self}
 
 -- the block b for the pass u: nothing changes; it is taken, and u neither holds nor fills it; a word is written for another

@@ -1,23 +1,23 @@
 -- Steps on a control word that leave its serial: look, a take that met another word, leave, share, the end of a try.
-use Rattle.std.proofs.Common.{◌≡◌, ◌≢◌, ℕ, ◌+◌, ◌-◌, ◌*◌, ◌/◌, ◌%◌, ◌^◌, ◌<◌, ◌≤◌, List, [], ◌∷◌, ◌++◌, length, get_or, set, Option, None, Some, IsSome, refl, sym, ap, ◌∙◌, subst, inl, inr, ⊎_elim, arith, le_refl, le_of_eq, le_trans, lit≤, ◌==◌}
+use Rattle.std.proofs.Common.{◌≡◌, ◌≢◌, ℕ, ◌+◌, ◌-◌, ◌*◌, ◌%◌, ◌^◌, ◌<◌, ◌≤◌, List, [], ◌∷◌, ◌++◌, length, get_or, set, None, Some, IsSome, refl, sym, ap, ◌∙◌, subst, ⊎_elim, arith, le_refl, le_of_eq, ◌==◌}
 use Rattle.std.proofs.lemmas.Bool.{cases_eq}
 use mathlib.Core.Option.{some, none}
 use lib.ListN.{get_elem?}
-use Rattle.atomic_table.specs.Table.{State, Me, keeps, stepped, step, Allows}
+use Rattle.atomic_table.specs.Table.{keeps, stepped, step, Allows}
 use Rattle.cd_keep.specs.declared.keep_id.KeepId.{KeepId}
 use Rattle.cd_lease.specs.declared.rule.Size.{Size}
 use Rattle.cd_lease.specs.declared.view.View.{View}
 use Rattle.cd_lease.specs.declared.view.Look.{Look}
 use Rattle.cd_lease.specs.declared.view.Miss.{Miss}
-use Rattle.cd_lease.specs.Control.{users_of, serial_of, control_at, users_in, serial_in, word_in}
-use Rattle.cd_lease.specs.Views.{times, one_out, words_under, one_if, one_there, ids_of, fills_of, tries_of, holds_in, fills_in, uses_in, spent_by, total}
-use Rattle.cd_lease.specs.Rule.{fillers, IsHeld, IsMissed, AllMissed, Stands, IsAlone, Leased}
-use Rattle.cd_lease.specs.Steps.{with_view, Sat, met, look_of, id_of, Looks, Leaves, leaving, Shares, sharing, missing, miss_of, Returns, giving_back}
-use Rattle.cd_lease.proofs.Sums.{total_set, total_at}
-use Rattle.cd_lease.proofs.Counting.{inside, id_from, one_at, one_off, held_in_block, times_cases, times_fewer, length_one_out, ids_one_out, some_of}
+use Rattle.cd_lease.specs.Control.{users_of, serial_of, control_at, users_in, serial_in}
+use Rattle.cd_lease.specs.Views.{times, one_out, words_under, one_if, one_there, ids_of, tries_of, holds_in, fills_in, uses_in, spent_by, total}
+use Rattle.cd_lease.specs.Rule.{fillers, IsHeld, IsMissed, AllMissed, Stands, Leased}
+use Rattle.cd_lease.specs.Steps.{with_view, Sat, met, look_of, Looks, Leaves, leaving, Shares, sharing, missing, miss_of, Returns, giving_back}
+use Rattle.cd_lease.proofs.Sums.{total_at}
+use Rattle.cd_lease.proofs.Counting.{id_from, one_at, one_off, held_in_block, times_cases, times_fewer, length_one_out, ids_one_out, some_of}
 use Rattle.cd_lease.proofs.TableWords.{control_now, control_else, words_stay, serials_stay}
 use Rattle.cd_lease.proofs.Changing.{Change, stays, stands_on}
-use Rattle.cd_lease.proofs.Stepping.{St, uses_spent, few_users, fillers_stay, alone_still, step_kept}
+use Rattle.cd_lease.proofs.Stepping.{St, few_users, fillers_stay, alone_still, step_kept}
 
 module _ (size : Size) (s : St) (r : Leased size s) (id : ℕ) (v : View) (at : get_elem? s.views id ≡ some v) where
   -- the control word of b becomes n, which has its serial

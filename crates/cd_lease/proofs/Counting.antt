@@ -1,5 +1,5 @@
 -- Counts of ids, and the words under them.
-use Rattle.std.proofs.Common.{◌≡◌, ℕ, zero, suc, ◌+◌, ◌-◌, ◌<◌, ◌≤◌, Bool, true, false, cond, ◌&&◌, ◌==◌, List, [], ◌∷◌, length, Option, None, Some, IsSome, unwrap_or, sym, refl, ap, subst, ◌∙◌, arith, eq-eqb, ne_eqb, eqb-true, lit≤, if◌then◌else◌}
+use Rattle.std.proofs.Common.{◌≡◌, ℕ, ◌+◌, ◌-◌, ◌<◌, ◌≤◌, Bool, true, false, cond, ◌==◌, List, [], ◌∷◌, length, Option, None, Some, IsSome, unwrap_or, sym, refl, ap, subst, ◌∙◌, arith, eq-eqb, ne_eqb, eqb-true, lit≤}
 use Rattle.std.proofs.lemmas.Bool.{and_from, and_parts, cond-true, cond-false, true≢false}
 use Rattle.cd_base.proofs.BoolLemmas.{by_test}
 use Rattle.cd_keep.specs.declared.keep_id.KeepId.{KeepId}

@@ -1,21 +1,21 @@
 -- Words that are written: a filling grows, and at its last word becomes a hold. Words that are read.
-use Rattle.std.proofs.Common.{◌≡◌, ◌≢◌, ℕ, ◌+◌, ◌-◌, ◌*◌, ◌/◌, ◌%◌, ◌^◌, ◌<◌, ◌≤◌, List, [], ◌∷◌, ◌++◌, length, get_or, set, take, Option, None, Some, IsSome, is_some, refl, sym, ap, ◌∙◌, subst, ⊎_elim, arith, le_refl, le_of_eq, ◌==◌}
+use Rattle.std.proofs.Common.{◌≡◌, ◌≢◌, ℕ, ◌+◌, ◌*◌, ◌<◌, ◌≤◌, List, [], ◌∷◌, ◌++◌, length, get_or, set, None, Some, is_some, refl, sym, ap, ◌∙◌, subst, ⊎_elim, arith, le_refl, le_of_eq, ◌==◌}
 use Rattle.std.proofs.lemmas.Bool.{cases_eq}
 use Rattle.std.proofs.lemmas.List.{get_or_append_left, get_or_push, set-get_or, length_push}
 use mathlib.Core.Option.{some, none}
 use lib.ListN.{get_elem?}
-use Rattle.atomic_table.specs.Table.{State, Me, keeps, stepped, step, Allows}
+use Rattle.atomic_table.specs.Table.{keeps, stepped, step, Allows}
 use Rattle.atomic_table.proofs.Lists.{set_again}
 use Rattle.cd_keep.specs.declared.keep_id.KeepId.{KeepId}
 use Rattle.cd_lease.specs.declared.rule.Size.{Size}
 use Rattle.cd_lease.specs.declared.view.View.{View}
 use Rattle.cd_lease.specs.declared.view.Piece.{Piece}
-use Rattle.cd_lease.specs.Control.{users_of, serial_of, control_at, word_at, users_in, serial_in, word_in, Begins}
-use Rattle.cd_lease.specs.Views.{times, words_under, one_if, one_there, ids_of, fills_of, tries_of, holds_in, fills_in, uses_in, spent_by, total}
+use Rattle.cd_lease.specs.Control.{users_of, serial_of, word_at, users_in, serial_in, word_in, Begins}
+use Rattle.cd_lease.specs.Views.{one_if, one_there, fills_of, holds_in, fills_in, total}
 use Rattle.cd_lease.specs.Rule.{fillers, IsHeld, IsKnown, IsFilled, Stands, IsAlone, Leased}
 use Rattle.cd_lease.specs.Steps.{with_view, Sat, longer, growing, holding, Writes, Ends, Reads}
 use Rattle.cd_lease.proofs.Sums.{total_set, total_at, total_two}
-use Rattle.cd_lease.proofs.Counting.{inside, not_some, some_of, one_at, one_off, fills_self, first_words, times_cases, words_cases, known_still}
+use Rattle.cd_lease.proofs.Counting.{inside, not_some, one_off, fills_self, first_words, times_cases, words_cases, known_still}
 use Rattle.cd_lease.proofs.TableWords.{controls_stay, word_now, words_else, words_before}
 use Rattle.cd_lease.proofs.Changing.{Change, stays, refills, stands_on}
 use Rattle.cd_lease.proofs.Stepping.{St, fillers_stay, alone_still, step_kept}

@@ -1,5 +1,5 @@
 -- A block that is held.
-use Rattle.std.proofs.Common.{◌≡◌, ℕ, ◌<◌, ◌≤◌, List, sym, arith}
+use Rattle.std.proofs.Common.{◌≡◌, ◌<◌, ◌≤◌, sym, arith}
 use Rattle.cd_lease.specs.Control.{users_in}
 use Rattle.cd_lease.specs.Views.{ids_of, uses_in, total}
 use Rattle.cd_lease.specs.Laws.{HeldStays}

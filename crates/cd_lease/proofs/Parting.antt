@@ -1,21 +1,20 @@
 -- A pass that is split off, and one that is taken back.
-use Rattle.std.proofs.Common.{◌≡◌, ◌≢◌, ℕ, ◌+◌, ◌-◌, ◌*◌, ◌<◌, ◌≤◌, List, [], ◌∷◌, ◌++◌, length, set, Option, None, Some, refl, sym, ap, ◌∙◌, subst, ⊎_elim, arith, le_refl}
+use Rattle.std.proofs.Common.{◌≡◌, ℕ, ◌+◌, ◌≤◌, List, [], ◌∷◌, ◌++◌, length, set, refl, sym, ap, ◌∙◌, subst, ⊎_elim, arith}
 use mathlib.Core.Option.{some}
 use lib.ListN.{get_elem?}
-use Rattle.atomic_table.specs.Table.{State, Splits, Joins}
+use Rattle.atomic_table.specs.Table.{Splits, Joins}
 use Rattle.atomic_table.proofs.Lists.{at_set, at_snoc, set_else}
 use Rattle.cd_lease.specs.declared.rule.Size.{Size}
 use Rattle.cd_lease.specs.declared.view.View.{View}
 use Rattle.cd_lease.specs.declared.view.Miss.{Miss}
 use Rattle.cd_lease.specs.Control.{users_in}
 use Rattle.cd_lease.specs.Views.{one_there, ids_of, fills_of, tries_of, holds_in, fills_in, uses_in, spent_by, total}
-use Rattle.cd_lease.specs.Rule.{fillers, IsMissed, AllMissed, Stands, IsAlone, Leased}
+use Rattle.cd_lease.specs.Rule.{fillers, AllMissed, Stands, Leased}
 use Rattle.cd_lease.specs.Seats.{IsIdle}
 use Rattle.cd_lease.specs.Steps.{newcomer, without, joining}
 use Rattle.cd_lease.proofs.Sums.{total_set, total_last}
 use Rattle.cd_lease.proofs.Counting.{not_some, ids_most}
 use Rattle.cd_lease.proofs.Changing.{stays, stands_on}
-use Rattle.cd_lease.proofs.Stepping.{St}
 
 -- a pass stands where each block is filled as before
 still : (size : Size) (ws : List ℕ) (fill now : ℕ → ℕ) (u : View) → ((b : ℕ) → now b ≡ fill b) → Stands size.blocks ws fill u → Stands size.blocks ws now u

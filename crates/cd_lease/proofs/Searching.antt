@@ -1,13 +1,12 @@
 -- Searches for a free block that follow each other.
-use Rattle.std.proofs.Common.{◌≡◌, ◌≢◌, ℕ, zero, suc, ◌+◌, ◌<◌, ◌≤◌, List, [], ◌∷◌, ◌++◌, Option, None, Some, MatchOption, refl, sym, ap, ◌∙◌, subst, inl, inr, append_assoc, append-nil, add-one}
+use Rattle.std.proofs.Common.{◌≡◌, ◌≢◌, ℕ, ◌+◌, List, [], ◌∷◌, ◌++◌, None, refl, sym, ap, ◌∙◌, subst, inl, append_assoc, append-nil, add-one}
 use Rattle.cd_keep.specs.declared.keep_id.KeepId.{KeepId}
 use Rattle.cd_lease.specs.declared.view.Look.{Look}
 use Rattle.cd_lease.specs.declared.view.View.{View}
 use Rattle.cd_lease.specs.Control.{IsOpen, IsShut}
 use Rattle.cd_lease.specs.Views.{words_under}
-use Rattle.cd_lease.specs.Seats.{IsIdle}
-use Rattle.cd_lease.specs.Steps.{with_view, Sat, met, look_of, id_of, next_id, taking}
-use Rattle.cd_lease.specs.Trying.{PassedBy, none, shut, lost, Found, FoundAround, AllPassedBy, PassesBy, Finds, PassesAll, FindsAround}
+use Rattle.cd_lease.specs.Steps.{with_view, Sat, met, look_of, next_id, taking}
+use Rattle.cd_lease.specs.Trying.{PassedBy, none, shut, lost, Found, PassesBy, Finds, FindsAround}
 
 pub passed_on : {a b c : ℕ} {ls ms : List Look} → PassedBy a b ls → PassedBy b c ms → PassedBy a c (ls ++ ms)
 passed_on none q = q

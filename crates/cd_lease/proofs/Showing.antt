@@ -1,16 +1,13 @@
 -- What contracts see of a pass, and what is so of it between two calls, where its view changes.
-use Rattle.std.proofs.Common.{◌≡◌, ℕ, ◌+◌, ◌-◌, ◌<◌, ◌≤◌, List, [], ◌∷◌, ◌++◌, length, map, Option, None, Some, IsSome, unwrap_or, refl, sym, ap, ◌∙◌, subst, arith, add-one, append_assoc, lt_of_lt_of_le}
+use Rattle.std.proofs.Common.{◌≡◌, ℕ, ◌+◌, ◌-◌, ◌<◌, ◌≤◌, length, arith, lt_of_lt_of_le}
 use Rattle.std.proofs.Math.Path.{fun_ext}
 use Rattle.cd_keep.specs.declared.keep_id.KeepId.{KeepId}
-use Rattle.cd_keep.specs.PassModel.{PassModel, gave_up}
+use Rattle.cd_keep.specs.PassModel.{gave_up}
 use Rattle.cd_lease.specs.declared.rule.Size.{Size}
 use Rattle.cd_lease.specs.declared.view.View.{View}
-use Rattle.cd_lease.specs.declared.view.Look.{Look}
-use Rattle.cd_lease.specs.Views.{times, one_out, words_under}
-use Rattle.cd_lease.specs.Steps.{met, leaving}
-use Rattle.cd_lease.specs.Trying.{keeping}
+use Rattle.cd_lease.specs.Views.{times, one_out}
+use Rattle.cd_lease.specs.Steps.{leaving}
 use Rattle.cd_lease.specs.Passes.{shown_by, Rests}
-use Rattle.cd_lease.specs.Leases.{Met, KeepsAt}
 use Rattle.cd_lease.proofs.Counting.{times_one_out, times_fewer, length_one_out}
 
 pub left_shown : (most store : ℕ) (v : View) (id : KeepId) → 0 < times v.holds id → shown_by most store (leaving v id) ≡ gave_up (shown_by most store v) id

@@ -1,6 +1,6 @@
 -- A step of one pass keeps the rule where the counts agree, the stepping pass stands, and each block changes for the others in
 -- one of three ways.
-use Rattle.std.proofs.Common.{◌≡◌, ◌≢◌, ℕ, ◌+◌, ◌*◌, ◌<◌, ◌≤◌, List, ◌∷◌, length, set, sym, ap, ◌∙◌, subst, ⊎_elim, arith, length-set}
+use Rattle.std.proofs.Common.{◌≡◌, ◌≢◌, ℕ, ◌+◌, ◌<◌, ◌≤◌, List, length, set, ◌∙◌, subst, ⊎_elim, arith, length-set}
 use mathlib.Core.Option.{some}
 use lib.ListN.{get_elem?}
 use Rattle.atomic_table.specs.Table.{State, keeps, stepped}
@@ -10,7 +10,7 @@ use Rattle.cd_lease.specs.declared.view.View.{View}
 use Rattle.cd_lease.specs.Control.{users_in}
 use Rattle.cd_lease.specs.Views.{one_there, ids_of, fills_of, tries_of, holds_in, fills_in, uses_in, spent_by, total}
 use Rattle.cd_lease.specs.Rule.{fillers, Stands, IsAlone, Leased}
-use Rattle.cd_lease.proofs.Sums.{total_set, total_at, total_most}
+use Rattle.cd_lease.proofs.Sums.{total_set, total_most}
 use Rattle.cd_lease.proofs.Counting.{ids_most, fills_most, tries_most}
 use Rattle.cd_lease.proofs.Changing.{Change, stands_on}
 

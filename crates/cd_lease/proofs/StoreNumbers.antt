@@ -1,5 +1,5 @@
 -- Two tables have two numbers.
-use Rattle.std.proofs.Common.{◌≡◌, ℕ, zero, suc, ◌+◌, ◌*◌, ◌<◌, List, [], ◌∷◌, refl, ap, sym, arith}
+use Rattle.std.proofs.Common.{◌≡◌, ℕ, zero, suc, ◌+◌, ◌*◌, ◌<◌, List, [], ◌∷◌, refl, ap, arith}
 use Rattle.atomic_table.specs.Seated.{TableId}
 use Rattle.cd_lease.specs.Stores.{doubled, pair, row, number}
 

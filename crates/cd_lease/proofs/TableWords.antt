@@ -1,7 +1,7 @@
 -- The words of the table where one of them changes.
-use Rattle.std.proofs.Common.{◌≡◌, ◌≢◌, ℕ, ◌+◌, ◌*◌, ◌/◌, ◌%◌, ◌<◌, ◌≤◌, ◌⊎◌, List, length, get_or, set, sym, ap, ◌∙◌, inl, inr, ⊎_elim, arith, get_or-set_same, get_or-set_other}
+use Rattle.std.proofs.Common.{◌≡◌, ◌≢◌, ℕ, ◌+◌, ◌*◌, ◌<◌, List, length, get_or, set, sym, ap, ◌∙◌, ⊎_elim, arith, get_or-set_same, get_or-set_other}
 use Rattle.std.proofs.lemmas.Bool.{cases_eq}
-use Rattle.cd_lease.specs.Control.{users_of, serial_of, control_at, word_at, users_in, serial_in, word_in}
+use Rattle.cd_lease.specs.Control.{serial_of, control_at, word_at, serial_in, word_in}
 
 other_control : (b d : ℕ) → d ≢ b → 65 * d ≢ 65 * b
 other_control b d n e = n (omega arith)

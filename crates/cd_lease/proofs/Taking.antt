@@ -1,19 +1,18 @@
 -- A take that wins: the block had no holder, and has the next serial and one pass that fills it.
-use Rattle.std.proofs.Common.{◌≡◌, ◌≢◌, ℕ, ◌+◌, ◌-◌, ◌*◌, ◌/◌, ◌%◌, ◌^◌, ◌<◌, ◌≤◌, List, [], ◌∷◌, ◌++◌, length, get_or, set, Option, None, Some, refl, sym, ap, ◌∙◌, subst, ⊎_elim, arith, le_refl, ◌==◌, eq-eqb, ne_eqb}
+use Rattle.std.proofs.Common.{◌≡◌, ℕ, ◌+◌, ◌*◌, ◌<◌, ◌≤◌, List, [], ◌∷◌, length, get_or, set, None, refl, sym, ap, ◌∙◌, subst, ⊎_elim, arith, le_refl, ◌==◌, eq-eqb, ne_eqb}
 use Rattle.std.proofs.lemmas.Bool.{cases_eq}
 use mathlib.Core.Option.{some, none}
 use lib.ListN.{get_elem?}
 use prog.Atomic.{either}
-use Rattle.atomic_table.specs.Table.{State, Me, keeps, stepped, step, Allows}
-use Rattle.cd_keep.specs.declared.keep_id.KeepId.{KeepId}
+use Rattle.atomic_table.specs.Table.{keeps, stepped, step, Allows}
 use Rattle.cd_lease.specs.declared.rule.Size.{Size}
 use Rattle.cd_lease.specs.declared.view.View.{View}
 use Rattle.cd_lease.specs.declared.view.Piece.{Piece}
-use Rattle.cd_lease.specs.Control.{users_of, serial_of, control_at, users_in, serial_in, word_in, IsOpen}
-use Rattle.cd_lease.specs.Views.{words_under, one_if, one_there, ids_of, fills_of, tries_of, holds_in, fills_in, uses_in, spent_by, total}
-use Rattle.cd_lease.specs.Rule.{fillers, IsFilled, Stands, IsAlone, Leased}
+use Rattle.cd_lease.specs.Control.{users_of, serial_of, control_at, users_in, serial_in, IsOpen}
+use Rattle.cd_lease.specs.Views.{words_under, one_if, one_there, fills_of, holds_in, fills_in, uses_in, total}
+use Rattle.cd_lease.specs.Rule.{fillers, IsFilled, IsAlone, Leased}
 use Rattle.cd_lease.specs.Seats.{IsIdle}
-use Rattle.cd_lease.specs.Steps.{with_view, Sat, met, look_of, id_of, next_id, piece_of, taking, Takes}
+use Rattle.cd_lease.specs.Steps.{with_view, Sat, met, look_of, next_id, piece_of, taking, Takes}
 use Rattle.cd_lease.proofs.Sums.{total_set, total_at, total_most}
 use Rattle.cd_lease.proofs.Counting.{inside, none_from, one_at, one_off}
 use Rattle.cd_lease.proofs.TableWords.{control_now, control_else, words_stay}

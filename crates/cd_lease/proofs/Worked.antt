@@ -1,14 +1,12 @@
 -- Worked cases: control words, and one block that goes from pass to pass.
-use Rattle.std.proofs.Common.{◌≡◌, ℕ, ◌+◌, ◌*◌, List, [], ◌∷◌, length, None, Some, refl, lit<}
-use Rattle.cd_keep.specs.declared.keep_id.KeepId.{KeepId}
-use Rattle.cd_keep.specs.PassModel.{PassModel, Gone}
-use Rattle.cd_lease.specs.declared.view.Look.{Look}
+use Rattle.std.proofs.Common.{◌≡◌, ◌+◌, ◌*◌, [], ◌∷◌, None, Some, refl, lit<}
+use Rattle.cd_keep.specs.PassModel.{Gone}
 use Rattle.cd_lease.specs.declared.view.View.{View}
 use Rattle.cd_lease.specs.Control.{users_of, serial_of, IsOpen, last_serial, control_at, word_at}
 use Rattle.cd_lease.specs.Views.{times, words_under, holds_in, fills_in, uses_in, spent_by, total}
 use Rattle.cd_lease.specs.Steps.{newcomer, id_of, look_of, taking, longer, growing, holding, piece_of, leaving, missing, giving_back, without, joining}
-use Rattle.cd_lease.specs.Trying.{PassedBy, none, lost, keeping}
-use Rattle.cd_lease.specs.Passes.{gone_of, shown_by}
+use Rattle.cd_lease.specs.Trying.{keeping}
+use Rattle.cd_lease.specs.Passes.{shown_by}
 
 -- two users of the serial 5; the next serial
 two_users : (users_of (5 * 16777216 + 2) ≡ 2) × (serial_of (5 * 16777216 + 2) ≡ 5) × (serial_of (5 * 16777216 + 16777217) ≡ 6)

@@ -12,7 +12,6 @@ use Rattle.cd_lease.specs.declared.view.Look.{Look}
 use Rattle.cd_lease.specs.declared.lease_pass.LeasePass.{LeasePass}
 use Rattle.cd_lease.specs.declared.lease_pass.Try.{Try}
 use Rattle.cd_lease.specs.declared.lease_pass.Try.TheVariants.{Kept, NotYet}
-use Rattle.cd_lease.specs.Views.{words_under}
 use Rattle.cd_lease.specs.Steps.{met, sharing, missing, giving_back}
 use Rattle.cd_lease.specs.Trying.{NotKept, KeptAs, keeping}
 use Rattle.cd_lease.specs.Stores.{number}

@@ -1,5 +1,5 @@
 -- What contracts see of a pass over leases.
-use Rattle.std.specs.Prelude.{◌≡◌, ℕ, ◌+◌, ◌≤◌, ◌<◌, ◌^◌, List, map, length, Option, Some, IsSome}
+use Rattle.std.specs.Prelude.{◌≡◌, ℕ, ◌+◌, ◌≤◌, ◌<◌, map, length, IsSome}
 use Rattle.cd_keep.specs.declared.keep_id.KeepId.{KeepId}
 use Rattle.cd_keep.specs.PassModel.{PassModel, Gone, AreShort}
 use Rattle.cd_lease.specs.declared.rule.Size.{Size}

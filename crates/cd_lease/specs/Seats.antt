@@ -1,11 +1,8 @@
 -- Where a seat is, and when its pass is between calls.
-use Rattle.std.specs.Prelude.{◌≡◌, ℕ, ◌+◌, ◌*◌, ◌<◌, ◌≤◌, length, Option, None, IsSome}
+use Rattle.std.specs.Prelude.{◌≡◌, ◌*◌, None}
 use Rattle.atomic_table.specs.Seated.{TableId}
-use Rattle.cd_keep.specs.declared.keep_id.KeepId.{KeepId}
-use Rattle.cd_keep.specs.PassModel.{AreShort}
 use Rattle.cd_lease.specs.declared.rule.Size.{Size}
 use Rattle.cd_lease.specs.declared.view.View.{View}
-use Rattle.cd_lease.specs.Views.{times, words_under, one_there}
 
 -- the seat is at the table, which has 65 words for each block
 pub record IsAt (table seat : TableId) (size : Size) : Type 0 where

@@ -1,9 +1,9 @@
 -- What a search for a free block meets, block after block, and what becomes of it.
-use Rattle.std.specs.Prelude.{◌≡◌, ◌≢◌, ℕ, zero, suc, ◌+◌, ◌-◌, ◌<◌, List, [], ◌∷◌, ◌++◌, ◌⊎◌, Option, None, Some}
+use Rattle.std.specs.Prelude.{◌≡◌, ◌≢◌, ℕ, suc, ◌+◌, ◌-◌, List, [], ◌∷◌, ◌++◌, ◌⊎◌, None}
 use Rattle.cd_keep.specs.declared.keep_id.KeepId.{KeepId}
 use Rattle.cd_lease.specs.declared.view.Look.{Look}
 use Rattle.cd_lease.specs.declared.view.View.{View}
-use Rattle.cd_lease.specs.Control.{serial_of, IsOpen, IsShut}
+use Rattle.cd_lease.specs.Control.{IsOpen, IsShut}
 use Rattle.cd_lease.specs.Views.{words_under}
 use Rattle.cd_lease.specs.Steps.{Sat, met, look_of, piece_of, taking, next_id}
 

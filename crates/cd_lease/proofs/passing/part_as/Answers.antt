@@ -1,6 +1,4 @@
-use Rattle.std.proofs.Common.{◌≡◌, ℕ, ◌≤◌, [], refl, sym, ap, ◌∙◌, subst, arith}
-use Rattle.atomic_table.specs.Table.{Splits}
-use Rattle.cd_lease.specs.Rule.{Leased}
+use Rattle.std.proofs.Common.{ℕ, ◌≤◌, sym, ap, ◌∙◌, subst, arith}
 use Rattle.cd_lease.specs.Steps.{with_view, bare_sat, newcomer, without}
 use Rattle.cd_lease.proofs.Parting.{splits}
 use Rattle.cd_lease.proofs.passing.part_as.Goals as goal

@@ -1,4 +1,4 @@
-use Rattle.std.proofs.Common.{◌≡◌, ℕ, ◌+◌, ◌*◌, List, [], ◌∷◌, ◌++◌, length, get_or, take, refl, ◌∙◌, ap, sym, arith, length-take-le}
+use Rattle.std.proofs.Common.{◌≡◌, ℕ, ◌+◌, ◌*◌, List, [], ◌∷◌, ◌++◌, length, get_or, take, ◌∙◌, ap, sym, arith, length-take-le}
 use Rattle.std.proofs.lemmas.List.{take_more}
 use Rattle.cd_lease.specs.Steps.{with_view, growing, piece_of}
 use Rattle.cd_lease.proofs.Filling.{writes_at}
