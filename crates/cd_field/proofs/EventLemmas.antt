@@ -8,23 +8,12 @@ use Rattle.std.proofs.lemmas.Option.{slice_get-get_or}
 use Rattle.cd_tree.specs.declared.event.Event.{Event}
 use Rattle.cd_tree.specs.declared.event.Event.TheVariants.{Complete}
 use Rattle.cd_field.specs.declared.event_list.Part.{Part}
-use Rattle.cd_field.specs.EventLists.{events_in, events_of, before_part, IsNumbered}
+use Rattle.cd_field.specs.EventLists.{events_in, before_part, IsNumbered}
 
 pub events_in-append : (ps qs : List Part) → events_in (ps ++ qs) ≡ events_in ps ++ events_in qs
 events_in-append [] qs = refl
 events_in-append (p ∷ ps) qs =
     ap (λ (v : List Event). p.events.items ++ v) (events_in-append ps qs) ∙ sym (append_assoc p.events.items (events_in ps) (events_in qs))
-
-none_in : (parts : List Part) → length parts ≡ 0 → events_in parts ≡ []
-none_in [] none = refl
-none_in (p ∷ parts) none = absurd (omega (arith, none))
-
--- the latest events of a list without parts, put behind others
-pub few_appended : (own parts : List Part) (latest more later : List Event) → length parts ≡ 0 → later ≡ latest ++ more
-    → events_of own later ≡ events_of own latest ++ events_of parts more
-few_appended own parts latest more later none is =
-    ap (λ (v : List Event). events_in own ++ v) is ∙ sym (append_assoc (events_in own) latest more)
-    ∙ ap (λ (v : List Event). (events_in own ++ latest) ++ (v ++ more)) (sym (none_in parts none))
 
 -- one part more
 pub events_pushed : (ps later : List Part) (p : Part) → later ≡ ps ++ p ∷ [] → events_in later ≡ events_in ps ++ p.events.items
