@@ -2,6 +2,7 @@
 ghost use Rattle.std.specs.Thread.{IsSync};
 
 use crate::passes::{Measure, Task, WORDS};
+use crate::plain::copy;
 use cd_base::NoMemory;
 use std::alloc::Global;
 use std::sync::Arc;
@@ -89,8 +90,12 @@ fn fetched_in_turn(block: &Block, turns: u32) -> u64 {
     let mut words = [0; 64];
     let mut sum = 0u64;
     for turn in 0..turns {
-        words.copy_from_slice(block.as_slice());
-        sum = sum.wrapping_add(words[turn as usize % 64]);
+        sum = sum.wrapping_add(copy_and_read(block.as_slice(), &mut words, turn % 64));
     }
     sum
+}
+
+fn copy_and_read(from: &[u64], words: &mut [u64], at: u32) -> u64 {
+    copy(words, from);
+    words.get(at as usize).copied().unwrap_or(0)
 }

@@ -1,7 +1,8 @@
 // Turns of one call of a pass, or of a call and the one that takes it back, on one, two and four threads. Each thread has a
 // pass of its own, and all were split off from one.
-ghost use Rattle.std.specs.Prelude.{◌≡◌, ◌+◌, ◌<◌, ◌≤◌, IsSome, OnOk};
+ghost use Rattle.std.specs.Prelude.{◌≡◌, ◌+◌, ◌<◌, ◌≤◌, IsSome, OnOk, length};
 ghost use Rattle.std.specs.Thread.{IsSend, IsSync};
+ghost use Rattle.cd_keep.specs.PassModel.{words_of};
 ghost use Rattle.cd_speed.specs.Turned.{CanTurn};
 
 use cd_base::NoMemory;
@@ -15,9 +16,10 @@ pub(crate) const WORDS: [u64; 64] = [7; 64];
 /// The room that the first pass is opened with.
 pub(crate) const ROOM: u32 = 65_536;
 
-// A thread's room, and how many blocks a pass keeps, one after another, that is split off for them. Then its room is gone.
-const ROOM_OF_ONE: u32 = 16_000;
+/// A thread's room.
+pub(crate) const ROOM_OF_ONE: u32 = 16_000;
 
+// How many blocks are kept by a pass that is split off for them. Then it is let go, and its room is gone.
 const TURNS_OF_ONE: u32 = 256;
 
 /// What a turn does.
@@ -116,7 +118,8 @@ fn kept_in_turn<R: Wait, P: Pass>(rt: &R, pass: &mut P, turns: u32) -> Result<u6
     requires { 16000 ≤ (P.model pass.old).room }
 {
     let mut sum = 0u64;
-    for _ in 0..(turns / TURNS_OF_ONE).min(ROOM_OF_ONE) {
+    let count = (turns / TURNS_OF_ONE).min(ROOM_OF_ONE);
+    for _turn in 0..count {
         let child = pass.split(1)?;
         sum = sum.wrapping_add(kept_by(rt, child)?);
     }
@@ -127,7 +130,7 @@ fn kept_by<R: Wait, P: Pass>(rt: &R, mut pass: P) -> Result<u64, NoMemory>
     requires { (P.model pass).room ≡ 1 }
 {
     let mut sum = 0u64;
-    for _ in 0..TURNS_OF_ONE {
+    for _turn in 0..TURNS_OF_ONE {
         sum = sum.wrapping_add(keep_and_give_up(rt, &mut pass)?);
     }
     Ok(sum)
@@ -146,7 +149,7 @@ fn shared_in_turn<P: Pass>(pass: &mut P, id: KeepId, turns: u32) -> u64
     requires { CanTurn (P.model pass.old) id 16000 }
 {
     let mut sum = 0u64;
-    for _ in 0..turns {
+    for _turn in 0..turns {
         sum = sum.wrapping_add(share_and_give_up(pass, id));
     }
     sum
@@ -167,7 +170,7 @@ fn held_in_turn<P: Pass>(pass: &mut P, id: KeepId) -> u64
     requires { CanTurn (P.model pass.old) id 16000 }
 {
     let mut sum = 0u64;
-    for _ in 0..ROOM_OF_ONE {
+    for _turn in 0..ROOM_OF_ONE {
         sum = sum.wrapping_add(share_once(pass, id));
     }
     sum
@@ -191,8 +194,20 @@ fn fetched_in_turn<P: Pass>(pass: &mut P, id: KeepId, turns: u32) -> u64
     let mut words = [0; 64];
     let mut sum = 0u64;
     for turn in 0..turns {
-        pass.fetch(id, words.as_mut_slice());
-        sum = sum.wrapping_add(words[turn as usize % 64]);
+        let word = fetch_and_read(pass, id, &mut words, turn % 64);
+        sum = sum.wrapping_add(word);
     }
     sum
+}
+
+fn fetch_and_read<P: Pass>(pass: &mut P, id: KeepId, words: &mut [u64], at: u32) -> u64
+    requires held { 0 < (P.model pass.old).holds id }
+    requires known { length (words_of (P.model pass.old) id) ≡ 64 }
+    requires long { length words.old ≡ 64 }
+    requires at { at < 64 }
+    ensures same { P.model pass.new ≡ P.model pass.old }
+    ensures long { length words.new ≡ 64 }
+{
+    pass.fetch(id, words);
+    words[at as usize]
 }
