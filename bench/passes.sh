@@ -1,9 +1,5 @@
 #!/usr/bin/env bash
-# What a block of 64 words costs behind passes over one table of blocks, behind passes over shared pointers, and as a plain copy behind a shared
-# pointer, on 1, 2 and 4 threads that share one store: the nanoseconds of a thread's processor time to keep it, to share it, to give it up and to fetch
-# its words. To keep and to share are timed with a give up each, and to share alone as well: so each is told from the others. The plain
-# copy has no such parts: what it keeps or shares it lets go. The time is that of many turns less that of few, the least of some runs each. Run by
-# hand; the program is built first.
+# Nanoseconds of a thread's processor time for a block of 64 words: by passes over blocks and over shared pointers, and as a plain copy.
 set -eu
 
 top=$(dirname -- "$(readlink -f -- "${BASH_SOURCE[0]}")")/..

@@ -4,7 +4,7 @@
 //! five regions and writes one word or a region; `copy region TURNS` copies a region's words there and back.
 //!
 //! `leased MEASURE TURNS THREADS` keeps, shares or fetches a block of 64 words by passes over one table of blocks, so many times on
-//! each thread; `pointed` does it by passes over shared pointers, and `plain` with a plain copy behind one. MEASURE is `keep` or
+//! each of 1, 2 or 4 threads; `pointed` does it by passes over shared pointers, and `plain` with a plain copy behind one. MEASURE is `keep` or
 //! `share`, each of which gives up as often, `hold`, which shares only, or `fetch`.
 //!
 //! It has no clock: `bench/operations.sh` and `bench/passes.sh` take the time of many turns and of few.
