@@ -15,12 +15,12 @@ write_run-requires-clause-present g c =
 
 pub absorb-requires : goal.absorb-requires
 absorb-requires g c =
-    can_absorb (g.F.Field.model c.args.field.now) (g.F.Field.model c.in_ok-part.part) (g.F.Field.model c.carve.new.self)
+    can_absorb (g.F.Field.model c.args.field.now) (g.F.Field.model c.in_ok-part.part) _
     (g.F.Field.model c.write_run.new.self) c.args.reads.now c.args.writes.now c.args.range c.args.words.now c.requires.loaded c.requires.writes
     c.requires.inside c.in_ok-part.ensures.part c.in_ok-part.ensures.rest c.write_run.ensures
 
 pub returns : goal.returns
 returns g c =
-    still_has (g.F.Field.model c.args.field.now) (g.F.Field.model c.in_ok-part.part) (g.F.Field.model c.carve.new.self)
+    still_has (g.F.Field.model c.args.field.now) (g.F.Field.model c.in_ok-part.part) _
     (g.F.Field.model c.write_run.new.self) (g.F.Field.model c.absorb.new.self) c.args.reads.now c.args.writes.now c.args.range c.args.words.now
     c.requires.loaded c.requires.writes c.in_ok-part.ensures.part c.in_ok-part.ensures.rest c.write_run.ensures c.in_ok-absorb.ensures
