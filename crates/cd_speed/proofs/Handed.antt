@@ -1,6 +1,5 @@
 -- A part that is handed out and taken back leaves all words there.
-use Rattle.std.proofs.Common.{◌≡◌, ◌<◌, ◌≤◌, ℕ, Bool, true, false, ◌||◌, ◌∙◌, List, [], ◌∷◌, Some, IsSome, Option, arith, refl, ap, sym, subst}
-use Rattle.std.proofs.lemmas.Bool.{cond-true, cond-false}
+use Rattle.std.proofs.Common.{◌≡◌, ◌<◌, ◌≤◌, ℕ, Bool, true, false, ◌||◌, ◌∙◌, List, [], ◌∷◌, arith, refl, ap, sym, subst}
 use Rattle.cd_base.specs.declared.place.Place.{Place}
 use Rattle.cd_base.specs.declared.place.Range.{Range}
 use Rattle.cd_base.specs.Words.{in_range, in_ranges}

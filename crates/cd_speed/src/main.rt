@@ -1,18 +1,29 @@
 //! A program that measures: it runs one operation some number of times, on a machine (`field OP TURNS`), on a part that is
 //! carved out of one (`part OP TURNS`) or as a plain loop over slices (`slice OP TURNS`), and prints a sum of words that the
 //! turns gave, which is the same for all. `hand word TURNS` and `hand region TURNS` carve out and take back a part that reads
-//! five regions and writes one word or a region; `copy region TURNS` copies a region's words there and back. It has no clock: `bench/operations.sh` takes the time of many turns and of few.
+//! five regions and writes one word or a region; `copy region TURNS` copies a region's words there and back.
+//!
+//! `leased MEASURE TURNS THREADS` keeps, shares or fetches a block of 64 words by passes over one table of blocks, so many times on
+//! each of 1, 2 or 4 threads; `pointed` does it by passes over shared pointers, and `plain` with a plain copy behind one. MEASURE is `keep` or
+//! `share`, each of which gives up as often, `hold`, which shares only, or `fetch`.
+//!
+//! It has no clock: `bench/operations.sh` and `bench/passes.sh` take the time of many turns and of few.
 #![tactic(auto)]
 
+mod copies;
 mod machine;
 mod operations;
 mod parts;
+mod passes;
 mod plain;
+mod shared;
 
 use cd_base::NoMemory;
 use std::alloc::{AllocError, Global};
 use std::env;
 use std::process::ExitCode;
+use std::sync::Wait;
+use std::thread::Threads;
 
 // The words are no such call.
 const MISUSE: u8 = 2;
@@ -41,10 +52,7 @@ fn main(rt: HostRuntime) -> ExitCode {
     let Ok(words) = collected else {
         return ExitCode::from(NO_MEMORY);
     };
-    let Some((way, name, turns)) = call_of(words.as_slice()) else {
-        return ExitCode::from(MISUSE);
-    };
-    match sum_of_turns(alloc, way, name, turns) {
+    match sum_of_call(&rt, alloc, words.as_slice()) {
         Ok(Some(sum)) => printed(&rt, sum),
         Ok(None) => ExitCode::from(MISUSE),
         Err(NoMemory) => ExitCode::from(NO_MEMORY),
@@ -55,6 +63,20 @@ fn printed(rt: &HostRuntime, sum: u64) -> ExitCode {
     match println!(rt; "{sum}") {
         Ok(()) => ExitCode::from(0),
         Err(_) => ExitCode::from(FAULT),
+    }
+}
+
+fn sum_of_call<R: Threads + Wait + Sync>(
+    rt: &R,
+    alloc: Global,
+    words: &[String],
+) -> Result<Option<u64>, NoMemory> {
+    if let Some(call) = shared::call_of(words) {
+        return Ok(Some(shared::sum_of_call(rt, alloc, call)?));
+    }
+    match call_of(words) {
+        Some((way, name, turns)) => sum_of_turns(alloc, way, name, turns),
+        None => Ok(None),
     }
 }
 

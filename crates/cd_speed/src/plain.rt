@@ -99,7 +99,8 @@ fn fill(d: &mut [u64], k: u64) {
     }
 }
 
-fn copy(d: &mut [u64], x: &[u64]) {
+/// Copies words to as many others.
+pub(crate) fn copy(d: &mut [u64], x: &[u64]) {
     for (word, from) in d.iter_mut().zip(x) {
         *word = *from;
     }

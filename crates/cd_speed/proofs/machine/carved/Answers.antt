@@ -1,4 +1,4 @@
-use Rattle.cd_speed.proofs.Timed.{all_present, as_present, part_has, two_words, five_regions, two_inside, five_inside}
+use Rattle.cd_speed.proofs.Timed.{all_present, as_present, two_words, five_regions, two_inside, five_inside}
 use Rattle.cd_speed.proofs.machine.carved.Goals as goal
 
 pub carve-requires-clause-reads : goal.carve-requires-clause-reads
