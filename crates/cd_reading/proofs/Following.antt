@@ -99,7 +99,7 @@ try_few w id domain body spare now whole few left =
 
 -- ---- a begin
 
-own_counted : (n : ℕ) (counts : Counts) → counted n counts n ≡ counts n + 1
+pub own_counted : (n : ℕ) (counts : Counts) → counted n counts n ≡ counts n + 1
 own_counted n counts = ap (λ (b : Bool). cond b (counts n + 1) (counts n)) (eq-eqb n n refl)
 
 pub begin_few : (w : Case) (id : NodeId) (domain : Domain) (body : Body) (counts : List ℕ)

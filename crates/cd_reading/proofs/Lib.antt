@@ -5,3 +5,4 @@ pub mod Rises
 pub mod Walking
 pub mod Following
 pub mod Whole
+pub mod StillLemmas

@@ -77,7 +77,8 @@ try_failed w id domain body spare left now more end whole is read failed so =
           ∙ so.same;
     }
 
-last_or : (spare : ℕ) (id : NodeId) (domain : Domain) (again : Counts → Told TryEnd) (t : Told TryEnd) (more : Counts) (end : TryEnd)
+-- a try that does not fail is the last
+pub last_or : (spare : ℕ) (id : NodeId) (domain : Domain) (again : Counts → Told TryEnd) (t : Told TryEnd) (more : Counts) (end : TryEnd)
     → quiet t ≡ (more, end) → has_failed end ≡ false → quiet (tries spare id domain again t) ≡ (more, last_end end)
 last_or zero id domain again t more end read other =
     ended_quiet id domain t t.answer ∙ ap (λ (p : Counts × TryEnd). let q : Counts × NodeEnd = (p.0, last_end p.1) in q) read

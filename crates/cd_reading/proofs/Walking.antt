@@ -103,7 +103,8 @@ pub record Arrives (h : Try) (halts kinds notes : ℕ) (step : Step) : Type 0 wh
   pub each : (counts : Counts) (next : ℕ → Told TryEnd)
       → quiet (unless_halted h (bit_and kinds halts) (bit_or notes kinds) counts next (bit_and kinds halts == no_kinds)) ≡ quiet (went step counts next)
 
-arrived_step : (w : Case) (h : Try) (point kinds halts notes : ℕ) (step : Step) (counts : Counts) (next : ℕ → Told TryEnd)
+-- a point at which faults of these kinds strike is this step
+pub arrived_step : (w : Case) (h : Try) (point kinds halts notes : ℕ) (step : Step) (counts : Counts) (next : ℕ → Told TryEnd)
     → kinds ≡ kinds_of (struck w.faults h.node h.begin point) → halts ≡ w.halts → Arrives h halts kinds notes step
     → quiet (arrived w h point notes counts next) ≡ quiet (went step counts next)
 arrived_step w h point kinds halts notes step counts next kinds_is halts_is arrives =

@@ -12,3 +12,5 @@ pub mod Ends
 pub mod Steps
 -- what the walk follows
 pub mod Walk
+-- domains that need no walk
+pub mod Plain

@@ -11,6 +11,7 @@
 
 mod case;
 mod ends;
+mod plain;
 mod steps;
 mod strikes;
 #[cfg(test)]

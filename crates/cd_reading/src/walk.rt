@@ -11,13 +11,31 @@ ghost use Rattle.cd_reading.specs.Walk.{the_node, listed, AreCounts, item_read, 
 
 use crate::case::Case;
 use crate::ends::{Ended, Grouped, Tried};
+use crate::plain::read_plain;
 use crate::steps::{Step, Try};
 use crate::strikes::kinds_at;
 use cd_tree::{Domain, Item, Kinds, NodeId, laws};
 
-// A domain from its begin to its end: as many tries as it has, while they fail.
+// A domain from its begin to its end. Most domains of a large program are plain, and need no walk.
 #[cycle(reading)]
 pub(crate) fn read_domain(case: &Case, id: NodeId, counts: &mut [u64]) -> Ended
+    requires case { IsCase case.now }
+    requires node { id.0 < length (domains_of case.now) }
+    requires size { length counts.old ≡ length (domains_of case.now) }
+    requires counts { AreCounts (read_node (given case.now) (the_node (domains_of case.now) id) (listed counts.old)).counts }
+    ensures reads { quiet (read_node (given case.now) (the_node (domains_of case.now) id) (listed counts.old)) ≡ (listed counts.new, node_end result) }
+    ensures fits { NodeFits (length (domains_of case.now)) result }
+{
+    if case.is_plain(id) {
+        read_plain(case, id, counts)
+    } else {
+        read_tries(case, id, counts)
+    }
+}
+
+// As many tries of a domain as it has, while they fail.
+#[cycle(reading)]
+fn read_tries(case: &Case, id: NodeId, counts: &mut [u64]) -> Ended
     requires case { IsCase case.now }
     requires node { id.0 < length (domains_of case.now) }
     requires size { length counts.old ≡ length (domains_of case.now) }

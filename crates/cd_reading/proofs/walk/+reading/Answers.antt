@@ -168,13 +168,13 @@ read_all_points-returns-in-Over-arrive-clause-reads t c =
 
 -- ---- tries
 
-pub read_domain-loop-init : goal.read_domain-loop-init
-read_domain-loop-init t c =
+pub read_tries-loop-init : goal.read_tries-loop-init
+read_tries-loop-init t c =
     tries_begin (case_of c.args.case.now.tree.now c.args.case.now.script.now) c.args.case.now.tree.now c.requires.case.sound
     c.the_nested_view_follows_the_list.ensures c.args.id c.node-domain.result.now (listed c.args.counts.now) c.node-domain.ensures
 
-pub read_domain-read_one_try-end-requires : goal.read_domain-read_one_try-end-requires
-read_domain-read_one_try-end-requires t c =
+pub read_tries-read_one_try-end-requires : goal.read_tries-read_one_try-end-requires
+read_tries-read_one_try-end-requires t c =
     let tree = c.args.case.now.tree.now in
     let w = case_of tree c.args.case.now.script.now in
     let domain = c.node-domain.result.now in
@@ -184,8 +184,8 @@ read_domain-read_one_try-end-requires t c =
     let size : length c.loop.counts ≡ length tree.domains = c.loop.auto.counts ∙ c.requires.size in
     search (rules, few, size)
 
-pub read_domain-loop-preserved : goal.read_domain-loop-preserved
-read_domain-loop-preserved t c =
+pub read_tries-loop-preserved : goal.read_tries-loop-preserved
+read_tries-loop-preserved t c =
     let tree = c.args.case.now.tree.now in
     let w = case_of tree c.args.case.now.script.now in
     let domain = c.node-domain.result.now in

@@ -10,25 +10,28 @@ use Rattle.cd_reading.proofs.Quiet.{TriesLeft}
 use Rattle.cd_reading.proofs.Walking.{PointsLeft, MembersLeft}
 use Rattle.cd_reading.proofs.walk.+reading.Given as goal
 
--- members have greater numbers, and what a domain has in it is smaller in this order: a try, its points, an item, members
+-- members have greater numbers, and what a domain has in it is smaller in this order: its tries, a try, its points, an item, members
 abbrev pub decreases-read_domain : goal.decreases-read_domain
-decreases-read_domain l = 5 * (length l.case.now.tree.now.domains - l.id.0) + 4
+decreases-read_domain l = 6 * (length l.case.now.tree.now.domains - l.id.0) + 5
+
+abbrev pub decreases-read_tries : goal.decreases-read_tries
+decreases-read_tries l = 6 * (length l.case.now.tree.now.domains - l.id.0) + 4
 
 abbrev pub decreases-read_one_try : goal.decreases-read_one_try
-decreases-read_one_try l = 5 * (length l.case.now.tree.now.domains - l.id.0) + 3
+decreases-read_one_try l = 6 * (length l.case.now.tree.now.domains - l.id.0) + 3
 
 abbrev pub decreases-read_all_points : goal.decreases-read_all_points
-decreases-read_all_points l = 5 * (length l.case.now.tree.now.domains - l.hand.now.node.0) + 2
+decreases-read_all_points l = 6 * (length l.case.now.tree.now.domains - l.hand.now.node.0) + 2
 
 abbrev pub decreases-pass_item : goal.decreases-pass_item
-decreases-pass_item l = 5 * (length l.case.now.tree.now.domains - l.hand.now.node.0) + 1
+decreases-pass_item l = 6 * (length l.case.now.tree.now.domains - l.hand.now.node.0) + 1
 
 abbrev pub decreases-read_all_members : goal.decreases-read_all_members
-decreases-read_all_members l = 5 * (length l.case.now.tree.now.domains - l.parent.0)
+decreases-read_all_members l = 6 * (length l.case.now.tree.now.domains - l.parent.0)
 
 -- the tries that are left are what is left of the domain
-abbrev pub invariant-read_domain-loop : goal.invariant-read_domain-loop
-invariant-read_domain-loop l =
+abbrev pub invariant-read_tries-loop : goal.invariant-read_tries-loop
+invariant-read_tries-loop l =
     TriesLeft (case_of l.case.tree.now l.case.script.now) l.fn.id l.domain (body_by (node_of l.case.tree.now.domains) l.domain.items)
     (l.domain.retry - l.counter) (listed l.counts)
     (read_node (case_of l.case.tree.now l.case.script.now) (the_node l.case.tree.now.domains l.fn.id) (listed l.initial.counts))
