@@ -6,3 +6,4 @@ pub mod RangeLemmas
 pub mod LeastLemmas
 pub mod UnionLemmas
 mod RangeCases
+pub mod SortLemmas

@@ -1,15 +1,14 @@
 -- Lemmas on two lists of ranges as one.
-use Rattle.std.proofs.Common.{◌≡◌, ℕ, ◌+◌, ◌<◌, ◌≤◌, Bool, true, false, ◌&&◌, ◌||◌, nat_lt, ◌==◌, List, [], ◌∷◌, length, take, drop, min, refl, sym, ap, ◌∙◌, subst, arith}
+use Rattle.std.proofs.Common.{◌≡◌, ℕ, ◌+◌, ◌<◌, ◌≤◌, Bool, true, false, ◌&&◌, ◌||◌, nat_lt, ◌==◌, List, [], ◌∷◌, length, min, refl, sym, ap, ◌∙◌, subst, arith}
 use Rattle.std.proofs.lemmas.Bool.Decides.{nat_tests}
 use Rattle.std.proofs.lemmas.Bool.{cond_both}
-use Rattle.std.proofs.lemmas.List.{take-append-drop}
 use Rattle.cd_base.specs.declared.place.Place.{Place}
 use Rattle.cd_base.specs.declared.place.Range.{Range}
 use Rattle.cd_base.specs.Words.{in_range, in_ranges}
 use Rattle.cd_base.specs.Places.{is_before, IsBeforeAll, IsOrdered, hull, begins_before, by_start, united_from, united}
 use Rattle.cd_base.proofs.BoolLemmas.{or-none, or-assoc, or-swap}
 use Rattle.cd_base.proofs.ListLemmas.{Each}
-use Rattle.cd_base.proofs.RangeLemmas.{is_before-trans, is_before-neither, hull-some, in_range-hull, in_ranges-append}
+use Rattle.cd_base.proofs.RangeLemmas.{is_before-trans, is_before-neither, hull-some, in_range-hull}
 
 -- ---- tests and numbers
 
@@ -152,15 +151,15 @@ length-united_from r (s ∷ rest) =
 
 -- ---- two sets as one
 
-united_places : (l : List Range) (q : Place) → ByStart l → in_ranges (united l) q ≡ in_ranges l q
+pub united_places : (l : List Range) (q : Place) → ByStart l → in_ranges (united l) q ≡ in_ranges l q
 united_places [] q h = refl
 united_places (r ∷ rest) q h = in_ranges-united_from r rest q h
 
-united_order : (l : List Range) → ByStart l → IsOrdered (united l)
+pub united_order : (l : List Range) → ByStart l → IsOrdered (united l)
 united_order [] h = tt
 united_order (r ∷ rest) h = IsOrdered-united_from r rest h
 
-united_few : (l : List Range) → length (united l) ≤ length l
+pub united_few : (l : List Range) → length (united l) ≤ length l
 united_few [] = omega arith
 united_few (r ∷ rest) = omega (arith, length-united_from r rest)
 
@@ -179,9 +178,3 @@ length-united rs ss all e = omega (arith, ap length e, united_few (by_start rs s
 
 pub both_views : (one rs other ss : List Range) → one ≡ rs → other ≡ ss → united (by_start one other) ≡ united (by_start rs ss)
 both_views one rs other ss e f = rw (e, f) refl
-
--- the places of two parts are the places of the whole
-pub in_ranges-parts : (all first second : List Range) (n : ℕ) (q : Place) (a b : Bool) → first ≡ take n all → second ≡ drop n all → a ≡ in_ranges first q
-    → b ≡ in_ranges second q → (a || b) ≡ in_ranges all q
-in_ranges-parts all first second n q a b e f h k =
-    rw (h, k, e, f) (sym (in_ranges-append (take n all) (drop n all) q) ∙ ap (λ (l : List Range). in_ranges l q) (take-append-drop n all))

@@ -6,7 +6,7 @@ ghost use Rattle.cd_base.specs.Words.{in_range, in_ranges};
 ghost use Rattle.cd_base.specs.Places.{IsOrdered, IsLeast, in_both, in_second_alone, is_before, hull, with_range};
 
 use crate::least::{first_common, first_lacking};
-use crate::united::united;
+use crate::united::{united, united_in_order};
 use crate::{NoMemory, Place, Range};
 use std::alloc::Global;
 use std::marker::Model;
@@ -41,27 +41,35 @@ impl Places {
         }
     }
 
-    /// The set of the places of some ranges. It takes time n log n in their number.
+    /// The set of the places of some ranges. They are sorted in a copy, and joined in one pass.
     pub fn of(alloc: Global, ranges: &[Range]) -> Result<Places, NoMemory>
         requires { All (λ (range : Range). range.low < range.high) ranges.now }
         ensures places { IfOk result (λ set. (q : Place) → in_ranges set q ≡ in_ranges ranges.now q) }
         ensures few { IfOk result (λ set. length set ≤ length ranges.now) }
     {
-        match ranges {
-            [] => Ok(Places::new(alloc)),
-            [range] => {
-                let mut set = Places::new(alloc);
-                set.add(*range)?;
-                Ok(set)
-            }
-            _ => {
-                let (first, second) = ranges.split_at(ranges.len() / 2);
-                let mut set = Places::of(alloc, first)?;
-                let other = Places::of(alloc, second)?;
-                set.union(&other)?;
-                Ok(set)
-            }
-        }
+        let mut copy = Vec::from_slice(alloc, ranges)?;
+        Places::sorting(alloc, copy.as_mut_slice())
+    }
+
+    /// The set of the places of some ranges, which are put in order where they stand. It takes time n log n in their number,
+    /// one pass where they are in order already, and memory for the set alone.
+    pub fn sorting(alloc: Global, ranges: &mut [Range]) -> Result<Places, NoMemory>
+        requires { All (λ (range : Range). range.low < range.high) ranges.old }
+        ensures places { IfOk result (λ set. (q : Place) → in_ranges set q ≡ in_ranges ranges.old q) }
+        ensures few { IfOk result (λ set. length set ≤ length ranges.old) }
+    {
+        ranges.sort_unstable_by_key(|range| (range.region, range.low));
+        let ranges = united_in_order(alloc, ranges)?;
+        Ok(Places { ranges, alloc })
+    }
+
+    /// The set of the places of two sets. It takes one pass over both.
+    pub fn of_both(alloc: Global, first: &Places, second: &Places) -> Result<Places, NoMemory>
+        ensures places { IfOk result (λ set. (q : Place) → in_ranges set q ≡ (in_ranges first.now q || in_ranges second.now q)) }
+        ensures few { IfOk result (λ set. length set ≤ length first.now + length second.now) }
+    {
+        let ranges = united(alloc, &first.ranges, &second.ranges)?;
+        Ok(Places { ranges, alloc })
     }
 
     /// A set of the same places, in memory of its own.

@@ -1,4 +1,4 @@
-//! One pass over two lists of ranges, by their beginnings, into one list.
+//! One pass over one or two lists of ranges, by their beginnings, into one list.
 ghost use Rattle.std.specs.Prelude.{◌≡◌, [], ◌∷◌, IfOk, MatchOption};
 ghost use Rattle.cd_base.specs.Places.{by_start, united, united_from};
 
@@ -48,6 +48,33 @@ fn united_from<'a>(
         }
         first = next.first;
         second = next.second;
+    }
+    all.push(range)?;
+    Ok(all)
+}
+
+// Ranges that stand by their beginnings, each joined with the next where they overlap or touch.
+pub(crate) fn united_in_order(alloc: Global, ranges: &[Range]) -> Result<Vec<Range>, NoMemory>
+    ensures { IfOk result (λ all. all.items ≡ united ranges.now) }
+{
+    match parted(ranges) {
+        None => Ok(Vec::new(alloc)),
+        Some((range, rest)) => united_behind(alloc, range, rest),
+    }
+}
+
+// One pass over one list: `range` waits until the next range does not touch it.
+fn united_behind(alloc: Global, mut range: Range, ranges: &[Range]) -> Result<Vec<Range>, NoMemory>
+    ensures { IfOk result (λ all. all.items ≡ united_from range ranges.now) }
+{
+    let mut all = Vec::new(alloc);
+    for next in ranges {
+        if comes_before(range, *next) {
+            all.push(range)?;
+            range = *next;
+        } else {
+            range = joined(range, *next);
+        }
     }
     all.push(range)?;
     Ok(all)
