@@ -17,12 +17,12 @@ use Rattle.cd_foot.specs.Feet.{IsFoot, AreFeet}
 use Rattle.cd_foot.specs.Gathered.{IsSide, AreFeetFrom}
 
 -- both sets and their union
-pub is_foot : (d : Node) (reads writes copy reach : List Range) → IsSide Reads d reads → IsSide Writes d writes → copy ≡ reads
-    → ((p : Place) → in_ranges reach p ≡ (in_ranges copy p || in_ranges writes p)) → IsFoot d (record { reads = reads; writes = writes; reach = reach })
-is_foot d reads writes copy reach one other same both = record {
+pub is_foot : (d : Node) (reads writes reach : List Range) → IsSide Reads d reads → IsSide Writes d writes
+    → ((p : Place) → in_ranges reach p ≡ (in_ranges reads p || in_ranges writes p)) → IsFoot d (record { reads = reads; writes = writes; reach = reach })
+is_foot d reads writes reach one other both = record {
   reads = one.places;
   writes = other.places;
-  reach = λ p. both p ∙ ap (λ (rs : List Range). in_ranges rs p || in_ranges writes p) same ∙ ap (λ (b : Bool). b || in_ranges writes p) (one.places p) ∙ ap (λ (b : Bool). node_reads d p || b) (other.places p);
+  reach = λ p. both p ∙ ap (λ (b : Bool). b || in_ranges writes p) (one.places p) ∙ ap (λ (b : Bool). node_reads d p || b) (other.places p);
 }
 
 -- one domain more

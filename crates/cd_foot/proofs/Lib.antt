@@ -6,3 +6,4 @@ pub mod OneAnswer
 pub mod BoundedLemmas
 pub mod ThereLemmas
 mod Worked
+pub mod ClearLemmas

@@ -91,7 +91,7 @@ listed_node at (domain ∷ domains) (suc k) within =
     let found = listed_node (suc at) domains k (omega arith) in
     (found.0, found.1, (let number = found.2 in omega (arith, number)))
 
-found_node : (domains : List Domain) (id : NodeId) → id.0 < length domains → (d : Node) × (node_of domains id ≡ Some d) × (id.0 ≡ number_of d)
+pub found_node : (domains : List Domain) (id : NodeId) → id.0 < length domains → (d : Node) × (node_of domains id ≡ Some d) × (id.0 ≡ number_of d)
 found_node domains id within =
     let found = listed_node 0 domains id.0 within in
     (found.0, found.1, (let number = found.2 in omega (arith, number)))
@@ -173,7 +173,7 @@ apart_from_first : (one : Node) (ms : Members) → IsApartFrom one ms → FirstO
 apart_from_first one no_more apart = refl
 apart_from_first one (member other rest) apart = (apart.0, apart_from_first one rest apart.1)
 
-members_apart_first : (ms : Members) → MembersApart ms → FirstOf OverlapOf (pairs_among ms) None
+pub members_apart_first : (ms : Members) → MembersApart ms → FirstOf OverlapOf (pairs_among ms) None
 members_apart_first no_more apart = refl
 members_apart_first (member one rest) apart =
     first_none OverlapOf (pairs_with one rest) (pairs_among rest) None (apart_from_first one rest apart.0) (members_apart_first rest apart.1)

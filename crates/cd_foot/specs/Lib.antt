@@ -12,3 +12,5 @@ pub mod Bounded
 pub mod Gathered
 -- what the code compares, item by item
 pub mod Siblings
+-- members that a pass shows to be apart
+pub mod Clear

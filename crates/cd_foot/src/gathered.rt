@@ -32,7 +32,7 @@ pub(crate) fn places_of(
     let mut ranges = Vec::new(alloc);
     add_entries(side, domain.entries.items(), &mut ranges)?;
     add_items(side, domain.items.items(), feet, &mut ranges)?;
-    let set = Places::of(alloc, &ranges)?;
+    let set = Places::sorting(alloc, ranges.as_mut_slice())?;
     Ok(set)
 }
 

@@ -10,6 +10,7 @@
 //! that of the first two siblings that interfere, with the least place at which they do.
 #![tactic(auto)]
 
+mod clear;
 mod footprints;
 mod gathered;
 pub mod laws;

@@ -41,8 +41,7 @@ pub(crate) fn foot_of(
     let domain = tree.node(node);
     let reads = places_of(alloc, Side::Reads, domain, feet)?;
     let writes = places_of(alloc, Side::Writes, domain, feet)?;
-    let mut reach = reads.try_clone(alloc)?;
-    reach.union(&writes)?;
+    let reach = Places::of_both(alloc, &reads, &writes)?;
     Ok(Foot {
         reads,
         writes,

@@ -13,12 +13,14 @@ ghost use Rattle.cd_foot.specs.Gathered.{IsItemOf};
 ghost use Rattle.cd_foot.specs.Siblings.{PairOf, item_pairs};
 
 use crate::Footprints;
+use crate::clear::are_clear;
 use cd_base::Place;
 use cd_tree::laws::each_domain_answers_for_itself;
 use cd_tree::{Item, NodeId, Refusal, Tree};
 
-/// Whether no two members of a group interfere, in any group of a program. It takes no memory, and time in the ranges of
-/// each pair of siblings.
+/// Whether no two members of a group interfere, in any group of a program. It takes no memory. Where the members of a group
+/// write in one region, one behind the other, and none reaches into what others write, it takes time in their ranges; else in
+/// the ranges of each pair.
 ///
 /// The refusal is E9 with the first two that do, by their parent in preorder, their group, the first and the second of
 /// them, and with the least place that one of the two writes and the other reaches.
@@ -59,6 +61,17 @@ fn item_apart(feet: &Footprints, item: &Item) -> Result<(), Refusal>
 
 // The first two of these members that interfere.
 fn members_apart(feet: &Footprints, members: &[NodeId]) -> Result<(), Refusal>
+    requires { All (λ (id : NodeId). id.0 < length feet.now) members.now }
+    ensures { (domains : List Domain) → AreFeet domains feet.now → FirstOf OverlapOf (pairs_among (members_by (node_of domains) members.now)) (refusal_in result) }
+{
+    if are_clear(feet, members) {
+        return Ok(());
+    }
+    pairs_apart(feet, members)
+}
+
+// The first two of these members that interfere, pair by pair.
+fn pairs_apart(feet: &Footprints, members: &[NodeId]) -> Result<(), Refusal>
     requires { All (λ (id : NodeId). id.0 < length feet.now) members.now }
     ensures { (domains : List Domain) → AreFeet domains feet.now → FirstOf OverlapOf (pairs_among (members_by (node_of domains) members.now)) (refusal_in result) }
 {

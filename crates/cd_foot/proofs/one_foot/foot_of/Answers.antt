@@ -14,9 +14,9 @@ places_of-requires-2 c =
 
 pub returns : goal.returns
 returns c d found =
-    is_foot d c.in_ok-reads.reads c.in_ok-writes.writes c.in_ok-reach.reach c.union.new.self
+    is_foot d c.in_ok-reads.reads c.in_ok-writes.writes c.in_ok-reach.reach
     (is_side Reads c.args.tree.now c.requires.tree c.args.feet.now c.args.node c.node-domain.result.now c.requires.after c.node-domain.ensures
     c.in_ok-reads.reads c.in_ok-reads.ensures d found)
     (is_side Writes c.args.tree.now c.requires.tree c.args.feet.now c.args.node c.node-domain.result.now c.requires.after c.node-domain.ensures
     c.in_ok-writes.writes c.in_ok-writes.ensures d found)
-    c.in_ok-reach.ensures c.in_ok-union.ensures.places
+    c.in_ok-reach.ensures.places

@@ -4,7 +4,7 @@ use Rattle.cd_tree.specs.Domains.{node_of, members_by}
 use Rattle.cd_foot.specs.Feet.{AreFeet}
 use Rattle.cd_foot.specs.Overlaps.{pairs_among, OverlapOf}
 use Rattle.cd_foot.proofs.OverlapLemmas.{Leads}
-use Rattle.cd_foot.proofs.overlaps.members_apart.Given as goal
+use Rattle.cd_foot.proofs.overlaps.pairs_apart.Given as goal
 
 abbrev pub invariant-loop-number : goal.invariant-loop-number
 invariant-loop-number l =
