@@ -1,13 +1,14 @@
 -- The table of faults: the begins of a domain at which any strike, gathered from the front of a script.
-use Rattle.std.proofs.Common.{◌≡◌, ◌≢◌, ℕ, ◌+◌, ◌<◌, ◌≤◌, Bool, true, false, cond, ◌&&◌, ◌==◌, List, [], ◌∷◌, ◌++◌, Some, All, length, take, get_or, filter, slice_get, refl, sym, ap, ◌∙◌, subst, arith, append-nil, inl, inr, ◌⊎◌, zero, suc, length-append}
-use Rattle.std.proofs.lemmas.Bool.{cases_Bool, and_parts, eqb-true}
-use Rattle.std.proofs.lemmas.List.{take_all}
+use Rattle.std.proofs.Common.{◌≡◌, ◌≢◌, ℕ, ◌+◌, ◌<◌, ◌≤◌, Bool, true, false, cond, ◌&&◌, ◌==◌, List, [], ◌∷◌, ◌++◌, Some, All, length, take, drop, get_or, filter, slice_get, refl, sym, ap, ◌∙◌, subst, arith, append-nil, inl, inr, ◌⊎◌, zero, suc, length-append}
+use Rattle.std.proofs.lemmas.Bool.{cases_Bool, cond-false, and_parts, eqb-true}
+use Rattle.std.proofs.lemmas.List.{take_all, drop_more}
 use Rattle.std.proofs.lemmas.List.Elements.{filter_more, All-nil, All-cons}
+use Rattle.std.proofs.lemmas.Option.{slice_get-get_or}
 use Rattle.cd_tree.specs.declared.domain.NodeId.{NodeId}
 use Rattle.cd_tree.specs.declared.document.Fault.{Fault}
 use Rattle.cd_tree.specs.Scripts.{struck}
 use Rattle.cd_reading.specs.declared.strikes.Struck.{Struck}
-use Rattle.cd_reading.specs.Strikes.{strikes_in, AreStruck, AreAllStruck}
+use Rattle.cd_reading.specs.Strikes.{strikes_in, AreStruck, AreAllStruck, AreMarks}
 
 -- each begin of which a fault was seen so far is there, with all its faults
 pub record StruckSo (faults : List Fault) (node i : ℕ) (begins : List Struck) : Type 0 where
@@ -117,6 +118,32 @@ pub found_none : (faults : List Fault) (node : ℕ) (begins : List Struck) (i be
     → [] ≡ filter (strikes_in node begin) faults
 found_none faults node begins i begin past none struck =
     sym (struck.others begin (λ k d short. none k d (omega arith)))
+
+-- ---- marks
+
+no_strike : (faults : List Fault) (node begin : ℕ) → All (λ (fault : Fault). fault.node.0 ≢ node) faults → filter (strikes_in node begin) faults ≡ []
+no_strike [] node begin none = refl
+no_strike (fault ∷ faults) node begin none =
+    cond-false (strikes_in node begin fault) (fault ∷ filter (strikes_in node begin) faults) (filter (strikes_in node begin) faults)
+    (not_here fault.node.0 node fault.begin begin (λ here same. none 0 fault (omega arith) here))
+    ∙ no_strike faults node begin (λ k d short. none (suc k) d (omega arith))
+
+-- a domain that no fault names
+pub never_struck : (faults : List Fault) (marks : List Bool) (node : ℕ) (d : Bool) (begins : List Struck) → AreMarks faults marks → node < length marks
+    → get_or marks node d ≡ false → begins ≡ [] → AreStruck faults node begins
+never_struck faults marks node d begins are within not none =
+    let is : slice_get marks node ≡ Some false = slice_get-get_or marks node d within ∙ ap (λ (b : Bool). Some b) not in
+    subst (AreStruck faults node) (sym none) (record {
+      each = All-nil (λ (struck : Struck). struck.faults ≡ filter (strikes_in node struck.begin) faults);
+      others = λ begin no_begin. no_strike faults node begin (are node is);
+    })
+
+-- a fault that does not name a domain, before others that do not
+pub mark_more : (faults : List Fault) (id i : ℕ) (d : Fault) → i < length faults → (get_or faults i d).node.0 ≢ id
+    → All (λ (fault : Fault). fault.node.0 ≢ id) (drop (i + 1) faults) → All (λ (fault : Fault). fault.node.0 ≢ id) (drop i faults)
+mark_more faults id i d within other rest =
+    subst (All (λ (fault : Fault). fault.node.0 ≢ id)) (sym (drop_more faults i d within))
+    (All-cons (λ (fault : Fault). fault.node.0 ≢ id) (get_or faults i d) (drop (i + 1) faults) other rest)
 
 -- ---- a table of all domains
 

@@ -1,5 +1,5 @@
 -- The faults of a script by the domain and the begin at which they strike.
-use Rattle.std.specs.Prelude.{◌≡◌, ◌≢◌, ℕ, Bool, ◌&&◌, ◌==◌, List, [], Some, All, filter, slice_get}
+use Rattle.std.specs.Prelude.{◌≡◌, ◌≢◌, ℕ, Bool, false, ◌&&◌, ◌==◌, List, [], Some, All, filter, slice_get}
 use Rattle.cd_tree.specs.declared.document.Fault.{Fault}
 use Rattle.cd_reading.specs.declared.strikes.Struck.{Struck}
 
@@ -15,3 +15,7 @@ pub record AreStruck (faults : List Fault) (node : ℕ) (begins : List Struck) :
 -- and of each domain of a table
 abbrev pub AreAllStruck : List Fault → List (List Struck) → Type 0
 AreAllStruck faults domains = (node : ℕ) (begins : List Struck) → slice_get domains node ≡ Some begins → AreStruck faults node begins
+
+-- a domain whose mark is not set is named by no fault
+abbrev pub AreMarks : List Fault → List Bool → Type 0
+AreMarks faults marks = (id : ℕ) → slice_get marks id ≡ Some false → All (λ (fault : Fault). fault.node.0 ≢ id) faults

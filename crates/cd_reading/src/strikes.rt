@@ -1,8 +1,8 @@
 // The faults of a script by the domain and the begin at which they strike, and the kinds that strike at a point.
-ghost use Rattle.std.specs.Prelude.{◌≡◌, ◌≢◌, ◌↔◌, ◌==◌, ◌<◌, ◌≤◌, ◌^◌, ℕ, List, All, IsTrue, filter, length, IfOk, OnOk};
+ghost use Rattle.std.specs.Prelude.{◌≡◌, ◌≢◌, ◌↔◌, ◌==◌, ◌<◌, ◌≤◌, ◌^◌, ℕ, List, Some, false, All, IsTrue, filter, length, slice_get, IfOk, OnOk};
 ghost use Rattle.cd_tree.specs.Scripts.{kinds_of};
 ghost use Rattle.cd_tree.specs.declared.document.Fault.{Fault};
-ghost use Rattle.cd_reading.specs.Strikes.{strikes_in, AreStruck, AreAllStruck};
+ghost use Rattle.cd_reading.specs.Strikes.{strikes_in, AreStruck, AreAllStruck, AreMarks};
 ghost use Rattle.cd_reading.specs.declared.strikes.Struck.{Struck};
 
 use cd_base::{Items, NoMemory};
@@ -16,7 +16,7 @@ pub(crate) struct Struck {
     faults: Items<Fault>,
 }
 
-// For each of so many domains, the faults of each of its begins. Each domain is compared with each fault.
+// For each of so many domains, the faults of each of its begins. Only a domain that a fault names is compared with each.
 pub(crate) fn all_struck(
     alloc: Global,
     script: &Script,
@@ -27,11 +27,65 @@ pub(crate) fn all_struck(
     ensures struck { IfOk result (λ domains. AreAllStruck script.now domains.items) }
 {
     let faults = script.items();
+    let marks = marks_of(alloc, faults, count)?;
     let mut domains = Vec::new(alloc);
     for id in 0..count {
-        domains.push(struck_of(alloc, faults, NodeId(id))?)?;
+        domains.push(struck_where(alloc, faults, NodeId(id), &marks)?)?;
     }
     Ok(domains)
+}
+
+// The faults of each begin of a domain, which has none where it is not marked.
+fn struck_where(
+    alloc: Global,
+    faults: &[Fault],
+    node: NodeId,
+    marks: &[bool],
+) -> Result<Items<Struck>, NoMemory>
+    requires few { length faults.now < 2 ^ 32 }
+    requires node { node.0 < length marks.now }
+    requires marks { AreMarks faults.now marks.now }
+    ensures { IfOk result (AreStruck faults.now node.0) }
+{
+    if marks[node.0 as usize] {
+        struck_of(alloc, faults, node)
+    } else {
+        Ok(Items::new(alloc))
+    }
+}
+
+// Which of so many domains are named by a fault.
+fn marks_of(alloc: Global, faults: &[Fault], count: u32) -> Result<Vec<bool>, NoMemory>
+    ensures size { IfOk result (λ marks. length marks.items ≡ count) }
+    ensures marks { IfOk result (λ marks. AreMarks faults.now marks.items) }
+{
+    let mut marks = no_marks(alloc, count)?;
+    for fault in faults {
+        mark(&mut marks, fault.node);
+    }
+    Ok(marks)
+}
+
+// So many marks, none of them set.
+fn no_marks(alloc: Global, count: u32) -> Result<Vec<bool>, NoMemory>
+    ensures { IfOk result (λ marks. length marks.items ≡ count) }
+{
+    let mut marks = Vec::new(alloc);
+    for _ in 0..count {
+        marks.push(false)?;
+    }
+    Ok(marks)
+}
+
+// Marks a domain, where it is among those that have a mark.
+fn mark(marks: &mut Vec<bool>, node: NodeId)
+    ensures size { length marks.new.items ≡ length marks.old.items }
+    ensures marked { (id : ℕ) → slice_get marks.new.items id ≡ Some false → (node.0 ≢ id) × (slice_get marks.old.items id ≡ Some false) }
+{
+    let index = node.0 as usize;
+    if index < marks.len() {
+        marks[index] = true;
+    }
 }
 
 // The faults of each begin of a domain.
