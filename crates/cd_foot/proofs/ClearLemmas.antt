@@ -1,12 +1,13 @@
 -- Members that are clear of each other: what the passes over them keep, and that such members are apart.
-use Rattle.std.proofs.Common.{◌≡◌, ℕ, suc, ◌+◌, ◌-◌, ◌<◌, ◌≤◌, Bool, true, false, ◌&&◌, ◌||◌, List, [], ◌∷◌, length, drop, get_or, All, Option, Some, slice_get, refl, sym, ap, subst, ◌∙◌, inl, inr, arith}
+use Rattle.std.proofs.Common.{◌≡◌, ℕ, zero, suc, ◌+◌, ◌-◌, ◌<◌, ◌≤◌, Bool, true, false, ◌&&◌, ◌||◌, List, [], ◌∷◌, length, drop, get_or, set, All, Option, Some, slice_get, refl, sym, ap, subst, ◌∙◌, inl, inr, arith}
 use Rattle.std.specs.Option.{option_map_or}
 use Rattle.std.proofs.lemmas.Bool.{cases_eq, or_from, or_left, or_right}
-use Rattle.std.proofs.lemmas.List.{drop_more}
+use Rattle.std.proofs.lemmas.List.{drop_more, drop_all}
 use Rattle.std.proofs.lemmas.Option.{slice_get-get_or}
 use Rattle.cd_base.specs.declared.place.Place.{Place}
 use Rattle.cd_base.specs.declared.place.Range.{Range}
 use Rattle.cd_base.specs.Words.{PlaceSet, in_range, in_ranges}
+use Rattle.cd_base.proofs.BoolLemmas.{and-none}
 use Rattle.cd_tree.specs.declared.domain.NodeId.{NodeId}
 use Rattle.cd_tree.specs.declared.domain.Domain.{Domain}
 use Rattle.cd_tree.specs.Domains.{Node, node_of, members_by}
@@ -25,28 +26,63 @@ abbrev no_range : Range
 no_range = record { region = 0; low = 0; high = 0 }
 
 -- one range more is held
-pub next_holds : (so all : Range) (ranges : List Range) (i : ℕ) (q : Place) → i < length ranges
-    → ((in_range so q || in_range (get_or ranges i no_range) q) ≡ true → in_range all q ≡ true)
-    → (in_range so q || in_ranges (drop i ranges) q) ≡ true → (in_range all q || in_ranges (drop (i + 1) ranges) q) ≡ true
+pub next_holds : (so all ranges : List Range) (i : ℕ) (q : Place) → i < length ranges
+    → ((in_ranges so q || in_range (get_or ranges i no_range) q) ≡ true → in_ranges all q ≡ true)
+    → (in_ranges so q || in_ranges (drop i ranges) q) ≡ true → (in_ranges all q || in_ranges (drop (i + 1) ranges) q) ≡ true
 next_holds so all ranges i q within holds left =
-    by (in_range so q) (in_range (get_or ranges i no_range) q) (in_ranges (drop (i + 1) ranges) q) (in_range all q) holds
-    (subst (λ (rs : List Range). (in_range so q || in_ranges rs q) ≡ true) (drop_more ranges i no_range within) left)
+    by (in_ranges so q) (in_range (get_or ranges i no_range) q) (in_ranges (drop (i + 1) ranges) q) (in_ranges all q) holds
+    (subst (λ (rs : List Range). (in_ranges so q || in_ranges rs q) ≡ true) (drop_more ranges i no_range within) left)
   where
     by : (a b c e : Bool) → ((a || b) ≡ true → e ≡ true) → (a || (b || c)) ≡ true → (e || c) ≡ true
     by true b c e h k = or_left e c (h refl)
     by false true c e h k = or_left e c (h refl)
     by false false c e h k = or_right e c k
 
+-- one of the ranges is exchanged for one that holds it and another
+pub set_holds : (xs : List Range) (k : ℕ) (r x : Range) (q : Place) → k < length xs
+    → ((in_range (get_or xs k no_range) q || in_range r q) ≡ true → in_range x q ≡ true)
+    → (in_ranges xs q || in_range r q) ≡ true → in_ranges (set xs k x) q ≡ true
+set_holds [] k r x q within holds left = absurd (omega arith)
+set_holds (y ∷ ys) zero r x q within holds left = by (in_range y q) (in_ranges ys q) (in_range r q) (in_range x q) holds left
+  where
+    by : (a b c e : Bool) → ((a || c) ≡ true → e ≡ true) → ((a || b) || c) ≡ true → (e || b) ≡ true
+    by true b c e h k = or_left e b (h refl)
+    by false true c e h k = or_right e true refl
+    by false false c e h k = or_left e false (h k)
+set_holds (y ∷ ys) (suc k) r x q within holds left =
+    by (in_range y q) (in_ranges ys q) (in_range r q) (in_ranges (set ys k x) q) (set_holds ys k r x q (omega arith) holds) left
+  where
+    by : (a b c e : Bool) → ((b || c) ≡ true → e ≡ true) → ((a || b) || c) ≡ true → (a || e) ≡ true
+    by true b c e h k = refl
+    by false b c e h k = h k
+
+-- no place of a set is in the ranges that are left, nor in one more
+pub next_misses : (reach ranges : List Range) (i : ℕ) → i < length ranges
+    → ((q : Place) → (in_ranges reach q && in_range (get_or ranges i no_range) q) ≡ false)
+    → Misses (in_ranges (drop (i + 1) ranges)) reach → Misses (in_ranges (drop i ranges)) reach
+next_misses reach ranges i within one rest q =
+    subst (λ (rs : List Range). (in_ranges reach q && in_ranges rs q) ≡ false) (sym (drop_more ranges i no_range within))
+    (by (in_ranges reach q) (in_range (get_or ranges i no_range) q) (in_ranges (drop (i + 1) ranges) q) (one q) (rest q))
+  where
+    by : (a b c : Bool) → (a && b) ≡ false → (a && c) ≡ false → (a && (b || c)) ≡ false
+    by false b c h k = refl
+    by true b c h k = or_from b c h k
+
+-- none is left
+pub none_misses : (reach ranges : List Range) (i : ℕ) → length ranges ≤ i → Misses (in_ranges (drop i ranges)) reach
+none_misses reach ranges i past q =
+    subst (λ (rs : List Range). (in_ranges reach q && in_ranges rs q) ≡ false) (sym (drop_all i ranges past)) (and-none (in_ranges reach q))
+
 -- ---- a pass
 
--- a range holds what the first so many members write, and none of them reaches what one before it writes
-pub record ClearSo (feet : List Foot) (ids : List NodeId) (order : Order) (so : ℕ) (range : Range) : Type 0 where
-  pub holds : (j : ℕ) → j < so → (q : Place) → in_ranges (writes_at feet (member_at ids (turn order (length ids) j))) q ≡ true → in_range range q ≡ true
+-- ranges hold what the first so many members write, and none of them reaches what one before it writes
+pub record ClearSo (feet : List Foot) (ids : List NodeId) (order : Order) (so : ℕ) (hulls : List Range) : Type 0 where
+  pub holds : (j : ℕ) → j < so → (q : Place) → in_ranges (writes_at feet (member_at ids (turn order (length ids) j))) q ≡ true → in_ranges hulls q ≡ true
   pub misses : (j k : ℕ) → j < k → k < so
       → Misses (in_ranges (writes_at feet (member_at ids (turn order (length ids) j)))) (reach_at feet (member_at ids (turn order (length ids) k)))
 
-pub clear_none : (feet : List Foot) (ids : List NodeId) (order : Order) (range : Range) → ClearSo feet ids order 0 range
-clear_none feet ids order range = record {
+pub clear_none : (feet : List Foot) (ids : List NodeId) (order : Order) (hulls : List Range) → ClearSo feet ids order 0 hulls
+clear_none feet ids order hulls = record {
   holds = λ j below q in_it. absurd (omega arith);
   misses = λ j k before below q. absurd (omega arith);
 }
@@ -60,32 +96,32 @@ smaller_misses places more ranges q holds none = by (in_ranges ranges q) (places
     by true false c h none = refl
     by true true c h none = sym (h refl) ∙ none
 
-pub clear_more : (feet : List Foot) (ids : List NodeId) (order : Order) (so : ℕ) (range all : Range)
-    → Widens feet range (member_at ids (turn order (length ids) so)) all → ClearSo feet ids order so range → ClearSo feet ids order (so + 1) all
-clear_more feet ids order so range all widens clear =
+pub clear_more : (feet : List Foot) (ids : List NodeId) (order : Order) (so : ℕ) (hulls all : List Range)
+    → Widens feet hulls (member_at ids (turn order (length ids) so)) all → ClearSo feet ids order so hulls → ClearSo feet ids order (so + 1) all
+clear_more feet ids order so hulls all widens clear =
     let id_of : ℕ → NodeId = λ j. member_at ids (turn order (length ids) j) in
     record {
       holds = λ j below q in_it.
           elim (cases_eq j so) [
             | inl same ↦
-                widens.holds q (or_right (in_range range q) (in_ranges (writes_at feet (id_of so)) q)
+                widens.holds q (or_right (in_ranges hulls q) (in_ranges (writes_at feet (id_of so)) q)
                 (subst (λ (i : ℕ). in_ranges (writes_at feet (id_of i)) q ≡ true) same in_it))
             | inr other ↦
-                widens.holds q (or_left (in_range range q) (in_ranges (writes_at feet (id_of so)) q) (clear.holds j (omega arith) q in_it))
+                widens.holds q (or_left (in_ranges hulls q) (in_ranges (writes_at feet (id_of so)) q) (clear.holds j (omega arith) q in_it))
           ];
       misses = λ j k before below q.
           elim (cases_eq k so) [
             | inl same ↦
                 subst (λ (i : ℕ). (in_ranges (reach_at feet (id_of i)) q && in_ranges (writes_at feet (id_of j)) q) ≡ false) (sym same)
-                (smaller_misses (in_ranges (writes_at feet (id_of j))) (in_range range) (reach_at feet (id_of so)) q
+                (smaller_misses (in_ranges (writes_at feet (id_of j))) (in_ranges hulls) (reach_at feet (id_of so)) q
                 (λ in_it. clear.holds j (omega arith) q in_it) (widens.misses q))
             | inr other ↦ clear.misses j k before (omega arith) q
           ];
     }
 
-pub clear_all : (feet : List Foot) (ids : List NodeId) (order : Order) (so : ℕ) (range : Range) → length ids ≤ so → ClearSo feet ids order so range
+pub clear_all : (feet : List Foot) (ids : List NodeId) (order : Order) (so : ℕ) (hulls : List Range) → length ids ≤ so → ClearSo feet ids order so hulls
     → IsClear feet ids order
-clear_all feet ids order so range past clear = record { misses = λ j k before below. clear.misses j k before (omega arith) }
+clear_all feet ids order so hulls past clear = record { misses = λ j k before below. clear.misses j k before (omega arith) }
 
 -- ---- clear members are apart
 

@@ -1,9 +1,9 @@
--- Members of a group that are apart because none reaches into the range of what those before and behind it write.
+-- Members of a group that are apart because none reaches into the ranges of what those before and behind it write.
 use Rattle.std.specs.Prelude.{◌≡◌, ℕ, ◌<◌, ◌-◌, ◌&&◌, ◌||◌, true, false, List, [], length, slice_get, slice_index_or}
 use Rattle.std.specs.Option.{option_map_or}
 use Rattle.cd_base.specs.declared.place.Place.{Place}
 use Rattle.cd_base.specs.declared.place.Range.{Range}
-use Rattle.cd_base.specs.Words.{PlaceSet, in_range, in_ranges}
+use Rattle.cd_base.specs.Words.{PlaceSet, in_ranges}
 use Rattle.cd_tree.specs.declared.domain.NodeId.{NodeId}
 use Rattle.cd_foot.specs.declared.footprints.Foot.{Foot}
 use Rattle.cd_foot.specs.declared.clear.Order.{Order}
@@ -20,10 +20,10 @@ reach_at feet id = option_map_or (λ foot. foot.reach) (slice_get feet id.0) []
 abbrev pub Misses : PlaceSet → List Range → Type 0
 Misses places ranges = (q : Place) → (in_ranges ranges q && places q) ≡ false
 
--- a domain reaches nothing of a range, and another range holds that one and what the domain writes
-pub record Widens (feet : List Foot) (hull : Range) (id : NodeId) (all : Range) : Type 0 where
-  pub misses : Misses (in_range hull) (reach_at feet id)
-  pub holds : (q : Place) → (in_range hull q || in_ranges (writes_at feet id) q) ≡ true → in_range all q ≡ true
+-- a domain reaches nothing of some ranges, and others hold what those do and what the domain writes
+pub record Widens (feet : List Foot) (hulls : List Range) (id : NodeId) (all : List Range) : Type 0 where
+  pub misses : Misses (in_ranges hulls) (reach_at feet id)
+  pub holds : (q : Place) → (in_ranges hulls q || in_ranges (writes_at feet id) q) ≡ true → in_ranges all q ≡ true
 
 -- the index of the one of so many that is gone through after k others
 abbrev pub turn : Order → ℕ → ℕ → ℕ

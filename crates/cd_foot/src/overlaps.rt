@@ -19,8 +19,8 @@ use cd_tree::laws::each_domain_answers_for_itself;
 use cd_tree::{Item, NodeId, Refusal, Tree};
 
 /// Whether no two members of a group interfere, in any group of a program. It takes no memory. Where the members of a group
-/// write in one region, one behind the other, and none reaches into what others write, it takes time in their ranges; else in
-/// the ranges of each pair.
+/// write in four regions at most, in each one behind the other, and none reaches into what others write there, it takes time
+/// in their ranges; else in the ranges of each pair.
 ///
 /// The refusal is E9 with the first two that do, by their parent in preorder, their group, the first and the second of
 /// them, and with the least place that one of the two writes and the other reaches.
