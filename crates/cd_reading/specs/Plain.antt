@@ -1,5 +1,5 @@
 -- Domains of which the reading knows all without a walk: no fault strikes in them, and they have no members.
-use Rattle.std.specs.Prelude.{◌≡◌, ℕ, List, [], Some, All, filter, slice_get}
+use Rattle.std.specs.Prelude.{◌≡◌, ℕ, [], Some, All, filter, slice_get}
 use Rattle.cd_tree.specs.declared.domain.NodeId.{NodeId}
 use Rattle.cd_tree.specs.declared.domain.Item.{Item}
 use Rattle.cd_tree.specs.declared.domain.Item.TheVariants.{Run, Group}

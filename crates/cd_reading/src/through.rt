@@ -21,9 +21,9 @@ pub struct Reading {
 }
 
 /// The one-thread reading of a program under a script: tries, points and members in order, as the definitions have them,
-/// with no machine and no word. Each domain is first compared with each fault; then a begin costs as many steps as its
-/// domain has begins with faults, and a point as many as faults strike at its begin. It recurses as deep as domains nest,
-/// and takes memory for the counts and the faults alone.
+/// with no machine and no word. Each domain that a fault names is first compared with each fault; then a begin costs as many
+/// steps as its domain has begins with faults, a point as many as faults strike at its begin, and a domain without members in
+/// which none strikes a look at its items. It recurses as deep as domains nest, and takes memory for the counts and the faults alone.
 pub fn read_through(alloc: Global, tree: &Tree, script: &Script) -> Result<Reading, NoMemory>
     ensures begins { IfOk result (λ reading. reading.begins ≡ begins_in tree.now script.now) }
     ensures cause { IfOk result (λ reading. reading.cause ≡ cause_in tree.now script.now) }

@@ -1,4 +1,4 @@
-use Rattle.std.proofs.Common.{rules, ◌≡◌, ◌+◌, ◌<◌, ◌^◌, set, slice_index, refl, arith}
+use Rattle.std.proofs.Common.{rules, ◌+◌, ◌<◌, ◌^◌, set, slice_index, refl, arith}
 use Rattle.cd_tree.specs.Reading.{read_node, Done}
 use Rattle.cd_tree.specs.Record.{case_of}
 use Rattle.cd_reading.specs.Walk.{the_node, listed}
