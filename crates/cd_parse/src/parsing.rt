@@ -242,7 +242,9 @@ pub(crate) fn read_draft(alloc: Global, bytes: &[u8]) -> Result<Draft, Refuse>
         Ok(layout) => layout,
         Err(refuse) => return Err(refuse),
     };
-    let mut draft = Draft::new(alloc);
+    let Ok(mut draft) = Draft::new(alloc) else {
+        return Err(Refuse::NoMemory);
+    };
     let mut variables = Vec::new(alloc);
     if let Err(refuse) = block(
         alloc,
