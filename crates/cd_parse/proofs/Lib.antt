@@ -28,4 +28,5 @@ pub mod UnrolledLemmas
 pub mod TurnLemmas
 pub mod RoomLemmas
 pub mod DraftLemmas
+pub mod MarkLemmas
 mod Stages

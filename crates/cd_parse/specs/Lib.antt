@@ -1,5 +1,6 @@
 -- The language: what each statement adds to a draft, what a text means, and what holds of all that are parsed.
 pub mod Draft
+pub mod Marks
 pub mod Sound
 pub mod Rooms
 pub mod Ranges

@@ -28,7 +28,7 @@ fn document(draft: Draft) -> Document
     Document {
         version,
         regions,
-        tree: Tree::of(kinds, Items::of(domains)),
+        tree: Tree::of(kinds, Items::of(domains.into_vec())),
         faults,
     }
 }

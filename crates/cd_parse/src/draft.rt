@@ -1,17 +1,18 @@
 //! The draft of a document, and the changes that statements make to it.
-ghost use Rattle.std.specs.Prelude.{◌≡◌, ◌+◌, ◌<◌, ◌^◌, ◌++◌, ◌∷◌, [], length, OnOk, Ok, slice_get, Some};
+ghost use Rattle.std.specs.Prelude.{◌≡◌, ◌+◌, ◌<◌, ◌^◌, ◌++◌, ◌∷◌, [], length, IfOk, OnOk, Ok, slice_get, Some};
 ghost use Rattle.cd_tokens.specs.Steps.{Reads, Steps};
-ghost use Rattle.cd_parse.specs.Draft.{no_draft, is_start, takes_kinds, takes_regions, is_closed, takes_strikes, may_end, is_open, takes_items, is_empty_body, takes_entries, takes_domains, innermost, parent_of, changed, with_item, with_entry, add_item, add_entry, named, entered, add_domain, open_group};
+ghost use Rattle.cd_parse.specs.Draft.{no_draft, is_start, takes_kinds, takes_regions, is_closed, takes_strikes, may_end, is_open, takes_items, is_empty_body, takes_entries, takes_domains, innermost, parent_of, add_item, add_entry, named, entered, add_domain, open_group};
 ghost use Rattle.cd_parse.specs.Heads.{entries_of, room_in, room_for_domain, ended_in, ended};
 ghost use Rattle.cd_parse.specs.Parsing.{counted};
 ghost use Rattle.cd_parse.specs.Rooms.{HaveRoom};
 
+use crate::marked::MarkedDomains;
 use cd_base::{Items, NoMemory};
 use cd_tokens::{Stop, Wrong, room};
 use cd_tree::{
     Domain, Entry, Item, KindName, NodeId, RawScript, Refusal, Refuse, Regions, Which, limits,
 };
-use std::alloc::Global;
+use std::alloc::{AllocError, Global};
 use std::marker::Model;
 
 /// What the statements so far have come to.
@@ -88,7 +89,7 @@ pub(crate) struct Draft {
     /// The lengths of all regions.
     pub words: u64,
     /// The domains in preorder, with all groups that are closed.
-    pub domains: Vec<Domain>,
+    pub domains: MarkedDomains,
     /// The domains that are open, the outermost first.
     pub levels: Vec<Level>,
     /// The items of all domains, with the groups that are open.
@@ -104,27 +105,28 @@ impl Model for Draft {
 
     ghost Value = { DraftModel };
 
-    ghost view = { λ it. record { lines = it.lines; stage = it.stage; version = it.version; kinds = it.kinds; regions = it.regions; words = it.words; domains = it.domains.items; levels = reverse it.levels.items; items = it.items; preserves = it.preserves; faults = it.faults } };
+    ghost view = { λ it. record { lines = it.lines; stage = it.stage; version = it.version; kinds = it.kinds; regions = it.regions; words = it.words; domains = it.domains; levels = reverse it.levels.items; items = it.items; preserves = it.preserves; faults = it.faults } };
 }
 
 impl Draft {
-    /// The draft before the first statement. It takes no memory.
-    pub(crate) fn new(alloc: Global) -> Draft
-        ensures { result ≡ no_draft }
+    /// The draft before the first statement.
+    pub(crate) fn new(alloc: Global) -> Result<Draft, AllocError>
+        ensures { IfOk result (λ draft. draft ≡ no_draft) }
     {
-        Draft {
+        let domains = MarkedDomains::new(alloc)?;
+        Ok(Draft {
             lines: 0,
             stage: Stage::Start,
             version: 1,
             kinds: Items::new(alloc),
             regions: Items::new(alloc),
             words: 0,
-            domains: Vec::new(alloc),
+            domains,
             levels: Vec::new(alloc),
             items: 0,
             preserves: 0,
             faults: Items::new(alloc),
-        }
+        })
     }
 
     /// One statement or one turn of a loop more.
@@ -172,7 +174,7 @@ impl Draft {
     fn is_empty_body(&self, at: u32) -> bool
         ensures { result ≡ is_empty_body (slice_get self.now.domains at) }
     {
-        match self.domains.get(at as usize) {
+        match self.domains.get(at) {
             Some(domain) => domain.items.items().is_empty(),
             None => false,
         }
@@ -210,7 +212,7 @@ impl Draft {
     pub(crate) fn entries_at(&self, at: u32) -> usize
         ensures { result ≡ entries_of (slice_get self.now.domains at) }
     {
-        match self.domains.get(at as usize) {
+        match self.domains.get(at) {
             Some(domain) => domain.entries.items().len(),
             None => 0,
         }
@@ -224,7 +226,7 @@ impl Draft {
         requires count { self.old.items + 1 < 2 ^ 32 }
         ensures { OnOk result (self.new ≡ add_item at item self.old) }
     {
-        push_item(&mut self.domains, at, item)?;
+        self.domains.push_item(at, item)?;
         self.items += 1;
         Ok(())
     }
@@ -235,7 +237,7 @@ impl Draft {
         requires count { self.old.preserves + 1 < 2 ^ 32 }
         ensures { OnOk result (self.new ≡ add_entry at entry self.old) }
     {
-        push_entry(&mut self.domains, at, entry)?;
+        self.domains.push_entry(at, entry)?;
         self.preserves += 1;
         Ok(())
     }
@@ -309,7 +311,7 @@ impl Draft {
         if members.items().is_empty() {
             return Err(Stop::Wrong(Wrong::Form));
         }
-        push_item(&mut self.domains, domain, Item::Group(members))?;
+        self.domains.push_item(domain, Item::Group(members))?;
         self.levels.push(Level {
             domain,
             group: None,
@@ -387,30 +389,4 @@ fn room_in(group: &Option<Items<NodeId>>, items: u32) -> Result<(), Wrong>
         None => room(Which::Items, limits::MOST_ITEMS, items as usize),
         Some(members) => room(Which::Members, limits::MOST_MEMBERS, members.items().len()),
     }
-}
-
-// One item more in domain `at`, where there is one.
-fn push_item(domains: &mut Vec<Domain>, at: u32, item: Item) -> Result<(), NoMemory>
-    requires { HaveRoom domains.old.items }
-    ensures { OnOk result (domains.new.items ≡ changed at (with_item item) domains.old.items) }
-{
-    let at = at as usize;
-    if at >= domains.len() {
-        return Ok(());
-    }
-    domains[at].items.push(item)?;
-    Ok(())
-}
-
-// One entry more in domain `at`, where there is one.
-fn push_entry(domains: &mut Vec<Domain>, at: u32, entry: Entry) -> Result<(), NoMemory>
-    requires { entries_of (slice_get domains.old.items at) + 1 < 2 ^ 32 }
-    ensures { OnOk result (domains.new.items ≡ changed at (with_entry entry) domains.old.items) }
-{
-    let at = at as usize;
-    if at >= domains.len() {
-        return Ok(());
-    }
-    domains[at].entries.push(entry)?;
-    Ok(())
 }

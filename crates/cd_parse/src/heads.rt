@@ -5,7 +5,7 @@ ghost use Rattle.cd_tokens.specs.Sums.{is_base};
 ghost use Rattle.cd_parse.specs.declared.draft.Stage.TheVariants.{Regions};
 ghost use Rattle.cd_parse.specs.Statements.{with_op, operation_in};
 ghost use Rattle.cd_tokens.specs.Steps.{Steps};
-ghost use Rattle.cd_parse.specs.Draft.{four_kinds, kind_name, has_kind_named, has_region_named, is_parent, has_child_named, add_domain};
+ghost use Rattle.cd_parse.specs.Draft.{four_kinds, kind_name, has_kind_named, has_region_named, add_domain};
 ghost use Rattle.cd_tokens.specs.Wrongs.{both};
 ghost use Rattle.cd_parse.specs.Rooms.{HaveRoom};
 ghost use Rattle.cd_parse.specs.Heads.{name_fits, begun, cd_in, short_how, long_how, how_in, with_entry_of, preserve_in, faults_in, is_kind_name, with_kind_named, kind_in, room_for_domain, words_fit, region_of, with_region, regioned, region_statement, time_in, damage_in, with_fault, struck, strike_in, group_in, end_in, has_domain_form, retry_fits, domain_named, with_domain, domained, domain_in};
@@ -508,30 +508,6 @@ fn has_domain_form(draft: &Draft, retry: &[u8], detects: &[u8]) -> bool
     draft.takes_domains() && (retry == b"retry".as_slice() && detects == b"detects".as_slice())
 }
 
-fn has_child_named(domains: &[Domain], parent: Option<NodeId>, token: &[u8]) -> bool
-    ensures { result ≡ has_child_named domains.now parent token.now }
-{
-    domains
-        .iter()
-        .any(|domain| is_child_named(domain, parent, token))
-}
-
-fn is_child_named(domain: &Domain, parent: Option<NodeId>, token: &[u8]) -> bool
-    ensures { result ≡ (is_parent domain.now.parent parent && bytes_eq domain.now.name token.now) }
-{
-    is_parent(domain.parent, parent) && domain.name.as_str().as_bytes() == token
-}
-
-fn is_parent(one: Option<NodeId>, other: Option<NodeId>) -> bool
-    ensures { result ≡ is_parent one other }
-{
-    match (one, other) {
-        (None, None) => true,
-        (Some(one), Some(other)) => one.0 == other.0,
-        _ => false,
-    }
-}
-
 // domain NAME retry E detects KINDS
 #[tactic(auto, unfolding(crate::specs::Heads::domain_in))]
 pub(crate) fn domain(
@@ -596,7 +572,7 @@ fn add_domain(
 {
     let token = named.as_str().as_bytes();
     let parent = draft.parent();
-    let taken = has_child_named(draft.domains.as_slice(), parent, token);
+    let taken = draft.domains.has_child_named(parent, token);
     let free = guard(!taken, Wrong::Taken);
     let count = room(Which::Domains, limits::MOST_DOMAINS, draft.domains.len());
     let depth = room(Which::Depth, limits::MOST_DEPTH, draft.levels.len());

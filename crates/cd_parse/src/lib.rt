@@ -11,6 +11,7 @@ mod document;
 mod draft;
 mod heads;
 pub mod laws;
+mod marked;
 mod operations;
 mod parsing;
 mod ranges;

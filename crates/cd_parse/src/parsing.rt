@@ -1,6 +1,6 @@
 //! The parsing of a text: its statements and the turns of its loops, in order.
-ghost use Rattle.std.specs.Prelude.{◌≡◌, ◌+◌, ◌≤◌, ◌&&◌, length, IfOk, OnOk, codes, bytes_eq};
-ghost use Rattle.cd_tree.specs.Limits.{text_limit};
+ghost use Rattle.std.specs.Prelude.{◌≡◌, ◌+◌, ◌≤◌, ◌&&◌, not, nat_lt, length, IfOk, OnOk, codes, bytes_eq};
+ghost use Rattle.cd_tree.specs.Limits.{text_limit, nesting_limit};
 ghost use Rattle.cd_tokens.specs.Steps.{Reads, Answers};
 ghost use Rattle.cd_tokens.specs.Sums.{is_base};
 ghost use Rattle.cd_parse.specs.Parsing.{taken, looped, all_turns, is_variable, loop_limits, bounds_part, loop_bounds, ended, draft_of};
@@ -76,6 +76,35 @@ fn has_form(variable: &[u8], among: &[u8]) -> bool
 }
 
 fn loop_bounds(
+    variables: &[Variable],
+    variable: &[u8],
+    among: &[u8],
+    numbers: &[u8],
+) -> Result<(u64, u64), Wrong>
+    ensures { result ≡ loop_bounds variables.now variable.now among.now numbers.now }
+{
+    if may_open(variables, variable, among) {
+        bounds(variables, numbers)
+    } else {
+        weighed_bounds(variables, variable, among, numbers)
+    }
+}
+
+// Whether nothing is wrong with a loop's line but maybe its bounds.
+fn may_open(variables: &[Variable], variable: &[u8], among: &[u8]) -> bool
+    ensures { result ≡ ((is_base variable.now && bytes_eq among.now (codes "in")) && (not (is_variable variables.now variable.now) && nat_lt (length variables.now) nesting_limit)) }
+{
+    has_form(variable, among) && is_new(variables, variable)
+}
+
+fn is_new(variables: &[Variable], variable: &[u8]) -> bool
+    ensures { result ≡ (not (is_variable variables.now variable.now) && nat_lt (length variables.now) nesting_limit) }
+{
+    !is_variable(variables, variable) && variables.len() < limits::MOST_NESTING as usize
+}
+
+// The bounds, or the first of all that is wrong with a loop's line.
+fn weighed_bounds(
     variables: &[Variable],
     variable: &[u8],
     among: &[u8],
@@ -242,7 +271,9 @@ pub(crate) fn read_draft(alloc: Global, bytes: &[u8]) -> Result<Draft, Refuse>
         Ok(layout) => layout,
         Err(refuse) => return Err(refuse),
     };
-    let mut draft = Draft::new(alloc);
+    let Ok(mut draft) = Draft::new(alloc) else {
+        return Err(Refuse::NoMemory);
+    };
     let mut variables = Vec::new(alloc);
     if let Err(refuse) = block(
         alloc,

@@ -1,7 +1,7 @@
 //! The line of an operation: its name and its operands, as its signature has them.
 ghost use Rattle.std.specs.Prelude.{◌≡◌, ◌++◌, ◌∷◌, map, OnOk, string_bytes};
 ghost use Rattle.cd_parse.specs.Signatures.{operands};
-ghost use Rattle.cd_print.specs.Canonical.{line_end, operand_token, op_statement};
+ghost use Rattle.cd_print.specs.Canonical.{line_end, range_token, operand_token, op_statement};
 
 use crate::lines::Stated;
 use crate::printer::Printer;
@@ -9,6 +9,7 @@ use cd_parse::Operand::{Number, Range};
 use cd_parse::{OpName, Operand};
 use cd_tree::Op;
 use std::alloc::AllocError;
+use std::fmt::Write;
 
 impl Stated for Op {
     ghost statement = { λ document op. op_statement document.regions op };
@@ -57,13 +58,16 @@ impl Printer<'_> {
     fn add_operand(&self, operand: Operand, text: &mut String) -> Result<(), AllocError>
         ensures { OnOk result (string_bytes text.new ≡ string_bytes text.old ++ 32 ∷ operand_token self.now.document.now.regions operand) }
     {
-        let alloc = self.alloc;
         match operand {
-            Range(range) => {
-                let range = self.range_text(range)?;
-                text.push_str(&format!(in alloc; " {range}")?)
-            }
-            Number(number) => text.push_str(&format!(in alloc; " {number}")?),
+            Range(range) => self.add_range_operand(range, text),
+            Number(number) => write!(text, " {number}"),
         }
+    }
+
+    fn add_range_operand(&self, range: cd_base::Range, text: &mut String) -> Result<(), AllocError>
+        ensures { OnOk result (string_bytes text.new ≡ string_bytes text.old ++ 32 ∷ range_token self.now.document.now.regions range) }
+    {
+        text.push_str(" ")?;
+        self.add_range(range, text)
     }
 }

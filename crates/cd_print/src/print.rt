@@ -27,7 +27,7 @@ pub fn print_document<K: Sink>(
 fn canonical_text(alloc: Global, document: &Document) -> Result<String, AllocError>
     ensures { IfOk result (λ text. string_bytes text ≡ canonical document.now) }
 {
-    let printer = Printer { alloc, document };
+    let printer = Printer { document };
     let version = document.version;
     let count = document.tree.count();
     prove!(0 < count);

@@ -1,49 +1,58 @@
 //! The tokens that statements are made of.
-ghost use Rattle.std.specs.Prelude.{◌≡◌, ◌++◌, IfOk, string_bytes, codes};
+ghost use Rattle.std.specs.Prelude.{◌≡◌, ◌++◌, OnOk, string_bytes, codes};
+ghost use Rattle.cd_tokens.specs.Written.{place_token};
 ghost use Rattle.cd_print.specs.Canonical.{line, range_token, how_tokens, pattern_tokens};
 
 use crate::printer::Printer;
-use cd_base::{Pattern, Range};
+use cd_base::{Pattern, Place, Range};
 use cd_tokens::region_name;
 use cd_tree::How;
-use std::alloc::{AllocError, Global};
+use std::alloc::AllocError;
+use std::fmt::Write;
 
 impl Printer<'_> {
-    /// A range by its region's name and its bounds.
-    pub fn range_text(&self, range: Range) -> Result<String, AllocError>
-        ensures { IfOk result (λ text. string_bytes text ≡ range_token self.now.document.now.regions range) }
+    /// Appends a range by its region's name and its bounds to a text.
+    pub fn add_range(&self, range: Range, text: &mut String) -> Result<(), AllocError>
+        ensures { OnOk result (string_bytes text.new ≡ string_bytes text.old ++ range_token self.now.document.now.regions range) }
     {
-        let alloc = self.alloc;
         let name = region_name(self.document.regions.items(), range.region);
-        format!(in alloc; "{name}[{}..{}]", range.low, range.high)
+        write!(text, "{name}[{}..{}]", range.low, range.high)
+    }
+
+    /// Appends a place by its region's name and its index to a text.
+    pub fn add_place(&self, place: Place, text: &mut String) -> Result<(), AllocError>
+        ensures { OnOk result (string_bytes text.new ≡ string_bytes text.old ++ place_token self.now.document.now.regions place) }
+    {
+        let name = region_name(self.document.regions.items(), place.region);
+        write!(text, "{name}[{}]", place.index)
     }
 }
 
-/// The tokens of a pattern as the end of a line, with its line feed.
-pub fn pattern_end(alloc: Global, pattern: Pattern) -> Result<String, AllocError>
-    ensures { IfOk result (λ text. string_bytes text ≡ line (pattern_tokens pattern)) }
+/// Appends the tokens of a pattern to a text, as the end of a line with its line feed.
+pub fn add_pattern(pattern: Pattern, text: &mut String) -> Result<(), AllocError>
+    ensures { OnOk result (string_bytes text.new ≡ string_bytes text.old ++ line (pattern_tokens pattern)) }
 {
     match pattern {
-        Pattern::Const(word) => format!(in alloc; "const {word}\n"),
-        Pattern::Iota(first, step) => format!(in alloc; "iota {first} {step}\n"),
-        Pattern::Mix(seed) => format!(in alloc; "mix {seed}\n"),
+        Pattern::Const(word) => write!(text, "const {word}\n"),
+        Pattern::Iota(first, step) => write!(text, "iota {first} {step}\n"),
+        Pattern::Mix(seed) => write!(text, "mix {seed}\n"),
     }
 }
 
-/// The tokens that say how an entry is preserved as the end of a line, with its line feed.
-pub fn how_end(alloc: Global, how: How) -> Result<String, AllocError>
-    ensures { IfOk result (λ text. string_bytes text ≡ line (how_tokens how)) }
+/// Appends the tokens that say how an entry is preserved to a text, as the end of a line with its line feed.
+pub fn add_how(how: How, text: &mut String) -> Result<(), AllocError>
+    ensures { OnOk result (string_bytes text.new ≡ string_bytes text.old ++ line (how_tokens how)) }
 {
     match how {
-        How::Copy => format!(in alloc; "copy\n"),
-        How::Refer => format!(in alloc; "refer\n"),
-        How::Regen(pattern) => regen_end(alloc, pattern),
+        How::Copy => text.push_str("copy\n"),
+        How::Refer => text.push_str("refer\n"),
+        How::Regen(pattern) => add_regen(pattern, text),
     }
 }
 
-fn regen_end(alloc: Global, pattern: Pattern) -> Result<String, AllocError>
-    ensures { IfOk result (λ text. string_bytes text ≡ codes "regen " ++ line (pattern_tokens pattern)) }
+fn add_regen(pattern: Pattern, text: &mut String) -> Result<(), AllocError>
+    ensures { OnOk result (string_bytes text.new ≡ string_bytes text.old ++ (codes "regen " ++ line (pattern_tokens pattern))) }
 {
-    let pattern = pattern_end(alloc, pattern)?;
-    format!(in alloc; "regen {pattern}")
+    text.push_str("regen ")?;
+    add_pattern(pattern, text)
 }

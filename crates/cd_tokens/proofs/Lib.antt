@@ -1,5 +1,7 @@
 mod Worked
 pub mod SumLemmas
+mod QuickLemmas
+mod WrongLemmas
 pub mod CutLemmas
 pub mod LineLemmas
 pub mod BlockLemmas

@@ -7,6 +7,7 @@ pub mod Sums
 pub mod Steps
 pub mod Layouts
 pub mod Cuts
+pub mod Quick
 pub mod Names
 pub mod Kinds
 pub mod Written

@@ -8,7 +8,11 @@ use crate::sums::{Variable, cut, expression, find, is_base};
 use crate::wrong::{Wrong, both, guard};
 use cd_base::{NoMemory, Text};
 use std::alloc::Global;
+use std::fmt::Write;
 use std::marker::Model;
+
+// Room for a name with its number; a longer one asks for more.
+const LONG_NAME: usize = 64;
 
 /// A part of a statement, or what is wrong with it; an error where there is no memory to keep the part.
 pub type Parsed<T> = Result<Result<T, Wrong>, NoMemory>;
@@ -62,7 +66,8 @@ fn numbered(alloc: Global, base: &[u8], number: u64) -> Result<Text, NoMemory>
     ensures { IfOk result (λ text. text ≡ base.now ++ decimal number) }
 {
     let base = str::from_utf8(base).unwrap();
-    let text = format!(in alloc; "{base}{number}")?;
+    let mut text = String::with_capacity(alloc, LONG_NAME)?;
+    write!(text, "{base}{number}")?;
     Text::of(alloc, text.as_str())
 }
 

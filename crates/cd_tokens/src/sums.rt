@@ -1,7 +1,8 @@
 //! Numbers: digits, variables, products and sums, each intermediate result within 64 bits.
-ghost use Rattle.std.specs.Prelude.{◌≡◌, ◌+◌, ◌*◌, ◌-◌, ◌<◌, ◌^◌, ◌==◌, true, length, position, MatchOption, Some, None};
+ghost use Rattle.std.specs.Prelude.{◌≡◌, ◌+◌, ◌*◌, ◌-◌, ◌<◌, ◌^◌, ◌==◌, true, length, position, MatchOption, Some, None, Ok, IfSome};
 ghost use Rattle.std.specs.List.{list_all};
-ghost use Rattle.cd_tokens.specs.Cuts.{Cuts, CutsSign};
+ghost use Rattle.cd_tokens.specs.Cuts.{Cuts, CutsSign, is_operator, CutsOperator};
+ghost use Rattle.cd_tokens.specs.Quick.{HasDigits, GoesOn, IsLast};
 ghost use Rattle.cd_tokens.specs.Sums.{is_digit, is_letter, is_name_byte, is_base, in_64_bits, value_after, value_of, atom, times, term, is_sign, joined, plus, expression, behind_dot, bounds};
 
 use crate::wrong::{Wrong, both};
@@ -186,9 +187,9 @@ fn plus(sum: Result<u64, Wrong>, sign: u8, term: Result<u64, Wrong>) -> Result<u
     joined(sign, sum, term)
 }
 
-/// Terms joined by `+` and `-`. It takes no memory.
+// Terms joined by `+` and `-`, and all that is wrong with them.
 #[tactic(auto, unfolding(crate::specs::Sums::expression))]
-pub fn expression(variables: &[Variable], token: &[u8]) -> Result<u64, Wrong>
+fn exact(variables: &[Variable], token: &[u8]) -> Result<u64, Wrong>
     ensures { result ≡ expression variables.now token.now }
 {
     let mut sum = Ok(0);
@@ -200,6 +201,147 @@ pub fn expression(variables: &[Variable], token: &[u8]) -> Result<u64, Wrong>
         rest = more;
     }
     plus(sum, sign, term(variables, rest))
+}
+
+// ---- in one pass
+
+fn is_operator(b: u8) -> bool
+    ensures { result ≡ is_operator b }
+{
+    b == b'*' || is_sign(b)
+}
+
+fn find_operator(token: &[u8]) -> Option<usize>
+    ensures { result ≡ position is_operator token.now }
+{
+    token.iter().position(|b| is_operator(*b))
+}
+
+// What stands before the first operator, the operator, and what stands behind it.
+fn cut_operator(token: &[u8]) -> Option<(&[u8], u8, &[u8])>
+    ensures { CutsOperator token.now result }
+{
+    match find_operator(token) {
+        Some(at) => Some((&token[..at], token[at], &token[at + 1..])),
+        None => None,
+    }
+}
+
+// The value of digits, where there are no other bytes and it has 64 bits.
+fn quick_digits(digits: &[u8]) -> Option<u64>
+    ensures { IfSome result (λ value. HasDigits 0 value digits.now) }
+{
+    let mut value: u64 = 0;
+    for digit in digits {
+        value = one_more_digit(value, *digit)?;
+    }
+    Some(value)
+}
+
+// A number with one digit more behind it, where the byte is a digit and the number has 64 bits.
+fn one_more_digit(value: u64, byte: u8) -> Option<u64>
+    ensures { IfSome result (λ more. (is_digit byte ≡ true) × (more ≡ 10 * value + (byte - 48)) × (more < 2 ^ 64)) }
+{
+    if is_digit(byte) {
+        value.checked_mul(10)?.checked_add(u64::from(byte - b'0'))
+    } else {
+        None
+    }
+}
+
+// The value of an atom, where it has one.
+fn quick_atom(variables: &[Variable], token: &[u8]) -> Option<u64>
+    ensures { IfSome result (λ value. atom variables.now token.now ≡ Ok value) }
+{
+    if token.is_empty() {
+        None
+    } else if is_digit(token[0]) {
+        quick_digits(token)
+    } else {
+        quick_value(variables, token)
+    }
+}
+
+// The value of the variable with this name, where there is one.
+fn quick_value(variables: &[Variable], name: &[u8]) -> Option<u64>
+    ensures { IfSome result (λ value. value_of variables.now name.now ≡ Ok value) }
+{
+    for variable in variables {
+        if variable.name.as_slice() == name {
+            return Some(variable.value);
+        }
+    }
+    None
+}
+
+// An expression of which a part is read: the sum before a term, the sign of the term, and the product of its factors so far.
+#[derive(Clone, Copy)]
+struct Reading {
+    sum: u64,
+    sign: u8,
+    product: u64,
+}
+
+// What is read with one factor more and the operator behind it.
+fn read_on(reading: Reading, factor: u64, operator: u8) -> Option<Reading>
+    ensures { IfSome result (λ next. GoesOn reading factor operator next) }
+{
+    let product = reading.product.checked_mul(factor)?;
+    if operator == b'*' {
+        Some(Reading { product, ..reading })
+    } else {
+        Some(Reading {
+            sum: quick_joined(reading.sign, reading.sum, product)?,
+            sign: operator,
+            product: 1,
+        })
+    }
+}
+
+// The sum with the last factor.
+fn read_last(reading: Reading, factor: u64) -> Option<u64>
+    ensures { IfSome result (λ sum. IsLast reading factor sum) }
+{
+    let product = reading.product.checked_mul(factor)?;
+    quick_joined(reading.sign, reading.sum, product)
+}
+
+// A sum, or a difference, where it has 64 bits.
+fn quick_joined(sign: u8, a: u64, b: u64) -> Option<u64>
+    ensures { IfSome result (λ sum. joined sign a b ≡ Ok sum) }
+{
+    if sign == b'-' {
+        a.checked_sub(b)
+    } else {
+        a.checked_add(b)
+    }
+}
+
+// The value of an expression with which nothing is wrong; else maybe none.
+fn quick(variables: &[Variable], token: &[u8]) -> Option<u64>
+    ensures { IfSome result (λ value. expression variables.now token.now ≡ Ok value) }
+{
+    let mut reading = Reading {
+        sum: 0,
+        sign: b'+',
+        product: 1,
+    };
+    let mut rest = token;
+    while let Some((factor, operator, more)) = cut_operator(rest) {
+        reading = read_on(reading, quick_atom(variables, factor)?, operator)?;
+        rest = more;
+    }
+    read_last(reading, quick_atom(variables, rest)?)
+}
+
+/// Terms joined by `+` and `-`. It takes no memory.
+pub fn expression(variables: &[Variable], token: &[u8]) -> Result<u64, Wrong>
+    ensures { result ≡ expression variables.now token.now }
+{
+    match quick(variables, token) {
+        Some(value) => Ok(value),
+        None => exact(variables, token),
+    }
 }
 
 // What stands behind a `.` that is the first byte.

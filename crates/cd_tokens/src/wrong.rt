@@ -1,5 +1,6 @@
 //! What is wrong with a statement or a part of one, and which of it comes first.
-ghost use Rattle.std.specs.Prelude.{◌≡◌, ◌+◌, ◌<◌, ◌^◌};
+ghost use Rattle.std.specs.Prelude.{◌≡◌, ◌+◌, ◌<◌, ◌^◌, is_ok};
+ghost use Rattle.std.specs.List.{list_all};
 ghost use Rattle.cd_tokens.specs.declared.wrong.Stop.TheVariants as stop;
 ghost use Rattle.cd_tokens.specs.Steps.{stopped_at};
 ghost use Rattle.cd_tokens.specs.Wrongs.{limit_rank, rank, first_wrong, both, guard, room, all_hold, refusal_at};
@@ -179,10 +180,27 @@ pub fn room(which: Which, most: u32, count: usize) -> Result<(), Wrong>
 pub fn all_hold(tests: &[Result<(), Wrong>]) -> Result<(), Wrong>
     ensures { result ≡ all_hold tests.now }
 {
+    if are_held(tests) {
+        Ok(())
+    } else {
+        first_of(tests)
+    }
+}
+
+fn are_held(tests: &[Result<(), Wrong>]) -> bool
+    ensures { result ≡ list_all is_ok tests.now }
+{
+    tests.iter().all(|test| test.is_ok())
+}
+
+// The first of all that is wrong with tests, where anything is.
+fn first_of(tests: &[Result<(), Wrong>]) -> Result<(), Wrong>
+    ensures { result ≡ all_hold tests.now }
+{
     match tests {
         [] => Ok(()),
         [test, rest @ ..] => {
-            both(*test, all_hold(rest))?;
+            both(*test, first_of(rest))?;
             Ok(())
         }
     }

@@ -5,5 +5,5 @@ use Rattle.cd_parse.proofs.parsing.read_draft.Goals as goal
 
 pub block-requires : goal.block-requires
 block-requires c =
-    let sound : IsSound c.new-draft.result = subst IsSound (sym c.new-draft.ensures) no_draft_is_sound in
+    let sound : IsSound c.in-Ok-new.draft = subst IsSound (sym c.in-Ok-new.ensures) no_draft_is_sound in
     search (rules, sound)

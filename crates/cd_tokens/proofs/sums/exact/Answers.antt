@@ -1,6 +1,6 @@
 use Rattle.cd_tokens.specs.Sums.{expression}
 use Rattle.cd_tokens.proofs.CutLemmas.{sum_part, sum_last}
-use Rattle.cd_tokens.proofs.sums.expression.Goals as goal
+use Rattle.cd_tokens.proofs.sums.exact.Goals as goal
 
 pub loop-part-preserved : goal.loop-part-preserved
 loop-part-preserved c =

@@ -4,11 +4,14 @@ use Rattle.cd_tree.specs.declared.domain.Domain.{Domain}
 use Rattle.cd_parse.specs.Draft.{with_entry}
 use Rattle.cd_parse.specs.Heads.{entries_of}
 use Rattle.cd_parse.proofs.DraftLemmas.{changed_set, changed_none}
-use Rattle.cd_parse.proofs.draft.push_entry.Goals as goal
+use Rattle.cd_parse.proofs.MarkLemmas.{marks_kept}
+use Rattle.cd_parse.proofs.marked.push_entry.Goals as goal
 
 pub returns-then-at-len : goal.returns-then-at-len
-returns-then-at-len c =
-    changed_none (with_entry c.args.entry) c.args.domains.now.items c.args.at (omega (arith, c.len.ensures, c.if-at-len.true))
+returns-then-at-len c = record {
+  change = changed_none (with_entry c.args.entry) c.args.domains.now.items c.args.at (omega (arith, c.len.ensures, c.if-at-len.true));
+  marked = λ marks all. all;
+}
 
 pub push-requires : goal.push-requires
 push-requires c =
@@ -20,5 +23,8 @@ push-requires c =
 
 pub returns : goal.returns
 returns c =
-    rw c.in_ok-push.ensures.ok (changed_set (with_entry c.args.entry) c.args.domains.now.items c.args.at c.index_mut.result.now
-    (omega (arith, c.len.ensures, c.if-at-len.false)) c.index_mut.ensures.value)
+    let within : c.args.at < length c.args.domains.now.items = omega (arith, c.len.ensures, c.if-at-len.false) in
+    rw c.in_ok-push.ensures.ok (record {
+      change = changed_set (with_entry c.args.entry) c.args.domains.now.items c.args.at c.index_mut.result.now within c.index_mut.ensures.value;
+      marked = λ marks all. marks_kept marks c.args.domains.now.items c.args.at c.index_mut.result.now (with_entry c.args.entry c.index_mut.result.now) c.index_mut.ensures.value refl refl all;
+    })

@@ -1,0 +1,7 @@
+use Rattle.cd_parse.proofs.marked.MarkedDomains.push_item.Goals as goal
+
+pub invariant_of-self : goal.invariant_of-self
+invariant_of-self c = record {
+  count = c.self.invariant.count;
+  all = c.push_item.ensures.marked c.self.inside.marks.items c.self.invariant.all;
+}

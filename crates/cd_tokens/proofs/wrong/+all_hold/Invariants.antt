@@ -1,5 +1,0 @@
-use Rattle.std.proofs.Common.{length}
-use Rattle.cd_tokens.proofs.wrong.+all_hold.Given as goal
-
-abbrev pub decreases-all_hold : goal.decreases-all_hold
-decreases-all_hold l = length l.tests.now
