@@ -1,0 +1,45 @@
+// What a pass over shared pointers holds, one id for each hold. It has no bytes and stands in proofs alone: words behind
+// shared pointers stay for a pass that has seen them, held or not, so no call has to look at a count.
+ghost use Rattle.std.specs.Prelude.{◌≡◌, List, []};
+ghost use Rattle.std.specs.Borrow.{ftrue};
+ghost use Rattle.cd_keep.specs.declared.keep_id.KeepId.{KeepId};
+ghost use Rattle.cd_keep.specs.IdsCode.{ids_code};
+
+use crate::KeepId;
+use std::marker::Model;
+
+#[derive(Drop)]
+pub(crate) struct Holds {
+    ghost ids: { List KeepId } by { ids_code },
+}
+
+impl Model for Holds {
+    ghost also_owns = { λ _. ftrue };
+}
+
+// It has no bytes and owns nothing.
+unsafe impl Send for Holds {}
+
+// What a call does to the holds of a pass.
+#[derive(Clone, Copy)]
+pub(crate) enum Change {
+    Held(KeepId),
+    GaveUp(KeepId),
+}
+
+impl Holds {
+    ghost use Rattle.cd_keep.specs.Holding.{changed};
+
+    pub(crate) fn none() -> Holds
+        ensures { result.ids ≡ [] }
+    {
+        Holds {}
+    }
+
+    #[inline(always)]
+    pub(crate) fn after(&self, _change: &Change) -> Holds
+        ensures { result.ids ≡ changed self.now.ids _change.now }
+    {
+        Holds {}
+    }
+}
