@@ -4,7 +4,7 @@ use Rattle.std.proofs.Math.Path.{fun_ext}
 use Rattle.std.proofs.lemmas.Bool.{cases_Bool}
 use Rattle.std.proofs.lemmas.Bool.Decides.{nat_tests}
 use Rattle.cd_keep.specs.declared.keep_id.KeepId.{KeepId}
-use Rattle.cd_keep.specs.PassModel.{PassModel, gave_up, same_id, known_with, one_less}
+use Rattle.cd_keep.specs.PassModel.{known_with, one_less, same_id}
 use Rattle.cd_keep.specs.Holding.{AreKnown, times, less}
 
 abbrev id_of : ℕ → ℕ → KeepId
@@ -60,27 +60,6 @@ length-less (p ∷ ids) id h =
           rw f (omega (arith, rest))
     ]
 
--- a hold given up
-pub gave_up-as : (p : PassModel) (ids later : List KeepId) (id : KeepId) → p.holds ≡ times ids → p.held ≡ length ids → later ≡ less id ids → 0 < times ids id
-    → record p { holds = times later; held = length later; room = p.room + 1 } ≡ gave_up p id
-gave_up-as p ids later id holds held is some =
-    let fewer : length (less id ids) + 1 ≡ length ids = length-less ids id some in
-    let one : length later ≡ p.held - 1 = ap (length {A = KeepId}) is ∙ omega (arith, fewer, held) in
-    let none : times later ≡ one_less p.holds id = ap times is ∙ times-less ids id ∙ ap (λ (h : KeepId → ℕ). one_less h id) (sym holds) in
-    ap (λ (h : KeepId → ℕ). record p { holds = h; held = length later; room = p.room + 1 }) none
-    ∙ ap (λ (n : ℕ). record p { holds = one_less p.holds id; held = n; room = p.room + 1 }) one
-
--- a hold given up makes room for another
-pub within-less : (ids later : List KeepId) (id : KeepId) (room most : ℕ) → later ≡ less id ids → 0 < times ids id → length ids + room ≤ most → length later + (room + 1) ≤ most
-within-less ids later id room most is some within =
-    let fewer : length (less id ids) + 1 ≡ length ids = length-less ids id some in
-    let same : length later ≡ length (less id ids) = ap (length {A = KeepId}) is in
-    omega (arith, fewer, same, within)
-
-pub some_held : (ids : List KeepId) (id : KeepId) → 0 < times ids id → 0 < length ids
-some_held [] id h = h
-some_held (p ∷ ids) id h = omega arith
-
 same_itself : (id : KeepId) → same_id id id ≡ true
 same_itself id = grind (arith, nat_tests)
 
@@ -91,9 +70,6 @@ same_ids p q h =
     ap (λ (n : ℕ). id_of n p.serial) block ∙ ap (id_of q.block) serial
 
 -- ---- what is held is known
-
-pub known-none : (known : KeepId → Option (List ℕ)) → AreKnown known []
-known-none known = record { each = λ id h. absurd (omega arith) }
 
 pub known-held : (known : KeepId → Option (List ℕ)) (ids : List KeepId) (id : KeepId) → IsSome (known id) → AreKnown known ids → AreKnown known (id ∷ ids)
 known-held known ids id is are = record { each = λ q h. elim (cases_Bool (same_id id q)) [ inl t ↦ of_same q t | inr f ↦ are.each q (rw f at h) ] }

@@ -4,7 +4,7 @@ ghost use Rattle.cd_keep.specs.PassModel.{AreShort, IsPiece, kept};
 ghost use Rattle.cd_keep.specs.Kept.{known_of};
 ghost use Rattle.cd_keep.specs.Holding.{AreKnown};
 
-use crate::holds::{Change, Holds};
+use crate::holds::Holds;
 use crate::kept::Kept;
 use crate::{GoneNote, KeepId, Pass};
 use cd_base::NoMemory;
@@ -57,7 +57,7 @@ impl ArcPass {
         ensures unchanged { OnErr result (model_of self.new ≡ model_of self.old) }
     {
         let id = self.kept.keep(words)?;
-        self.holds = self.holds.after(&Change::Held(id));
+        self.holds = self.holds.more(id);
         self.room -= 1;
         Ok(id)
     }
@@ -97,7 +97,7 @@ impl Pass for ArcPass {
         ensures never_gone { IsOk result }
         ensures held { model_of self.new ≡ shared (model_of self.old) seen }
     {
-        self.holds = self.holds.after(&Change::Held(seen));
+        self.holds = self.holds.more(seen);
         self.room -= 1;
         Ok(())
     }
@@ -111,7 +111,7 @@ impl Pass for ArcPass {
     }
 
     fn give_up(&mut self, id: KeepId) {
-        self.holds = self.holds.after(&Change::GaveUp(id));
+        self.holds = self.holds.fewer(id);
         self.room += 1;
     }
 

@@ -10,5 +10,5 @@ invariant_of-self-2-clause-short c =
 
 pub invariant_of-self-2-clause-known : goal.invariant_of-self-2-clause-known
 invariant_of-self-2-clause-known c =
-    known-kept (known_of c.args.self.now.kept) (known_of c.keep.new.self) c.args.self.now.holds.ids c.after-self.result.ids c.in_ok-id.id
-    c.args.words.now c.in_ok-id.ensures.known c.after-self.ensures c.args.self.now.known
+    known-kept (known_of c.args.self.now.kept) (known_of c.keep.new.self) c.args.self.now.holds.ids c.more-self.result.ids c.in_ok-id.id
+    c.args.words.now c.in_ok-id.ensures.known c.more-self.ensures.ids c.args.self.now.known

@@ -1,5 +1,4 @@
 use Rattle.cd_keep.specs.Kept.{known_of}
-use Rattle.cd_keep.proofs.HoldLemmas.{known-none}
 use Rattle.cd_keep.proofs.KnownLemmas.{short-none}
 use Rattle.cd_keep.proofs.arc_pass.ArcPass.open.Goals as goal
 
