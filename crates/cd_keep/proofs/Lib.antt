@@ -1,2 +1,4 @@
 pub mod LayerLemmas
+pub mod KnownLemmas
+pub mod HoldLemmas
 mod Worked

@@ -1,15 +1,16 @@
 -- What contracts see of a pass over shared pointers.
-use Rattle.std.specs.Prelude.{◌+◌, ◌≤◌, ◌<◌, ◌^◌, []}
+use Rattle.std.specs.Prelude.{◌+◌, ◌≤◌, ◌<◌, ◌^◌, [], length}
 use Rattle.cd_keep.specs.declared.arc_pass.ArcPass.{ArcPass}
-use Rattle.cd_keep.specs.LayerModel.{known_in, holds_in}
+use Rattle.cd_keep.specs.Holding.{times}
+use Rattle.cd_keep.specs.Kept.{known_of}
 use Rattle.cd_keep.specs.PassModel.{PassModel, AreShort}
 
 -- all such passes are of one store, of number 0, and none gives a gone answer
 unfoldable pub model_of : ArcPass → PassModel
 model_of pass = record {
-  known = known_in pass.layers.items;
-  holds = holds_in pass.layers.items;
-  held = pass.held;
+  known = known_of pass.kept;
+  holds = times pass.holds.ids;
+  held = length pass.holds.ids;
   room = pass.room;
   most = pass.most;
   store = 0;

@@ -1,57 +1,35 @@
--- A layer of a pass as contracts see it: pieces with the counts of their holds; and what each id means in a list of layers.
-use Rattle.std.specs.Prelude.{◌≡◌, ℕ, ◌<◌, ◌^◌, Bool, true, false, List, [], ◌∷◌, ◌++◌, length, Option, get_or, slice_set, sum, replicate}
-use Rattle.std.specs.List.{slice_get, sum_by}
-use Rattle.cd_keep.specs.declared.keep_id.KeepId.{KeepId}
+-- A layer of a pass as contracts see it.
+use Rattle.std.specs.Prelude.{◌≡◌, ℕ, zero, suc, ◌+◌, ◌-◌, ◌<◌, ◌≤◌, List, [], ◌∷◌, ◌++◌, length, take, drop, Option, option_map, get_or}
+use Rattle.std.specs.List.{slice_get}
 
--- whether no pass was split off since the layer was begun, the pieces, and how often each is held
+-- the words of all pieces, and where each piece ends
 pub record LayerModel : Type 0 where
-  pub is_open : Bool
-  pub pieces : List (List ℕ)
-  pub holds : List ℕ
+  pub words : List ℕ
+  pub ends : List ℕ
 
 -- a layer without pieces
 abbrev pub empty_layer : LayerModel
-empty_layer = record { is_open = true; pieces = []; holds = [] }
+empty_layer = record { words = []; ends = [] }
 
--- when a layer takes one piece more: the number of its piece is a block of 32 bits
-pub record CanGrow (layer : LayerModel) : Type 0 where
-  pub is_open : layer.is_open ≡ true
-  pub few : length layer.pieces < 2 ^ 32
+-- where the piece of a block begins: where the one before ends
+abbrev pub begin_at : List ℕ → ℕ → ℕ
+begin_at ends zero = 0
+begin_at ends (suc block) = get_or ends block 0
 
--- a piece put last, held once
+-- each piece ends in the words and not before it begins, and the next one begins where they end
+pub record AreEnds (words ends : List ℕ) : Type 0 where
+  pub ordered : (block : ℕ) → block < length ends → begin_at ends block ≤ get_or ends block 0
+  pub within : (block : ℕ) → block < length ends → get_or ends block 0 ≤ length words
+  pub all : begin_at ends (length ends) ≡ length words
+
+-- a piece put last
 abbrev pub pushed : LayerModel → List ℕ → LayerModel
-pushed layer piece = record layer { pieces = layer.pieces ++ piece ∷ []; holds = layer.holds ++ 1 ∷ [] }
+pushed layer piece = record { words = layer.words ++ piece; ends = layer.ends ++ (length layer.words + length piece) ∷ [] }
 
--- a block's piece held n times
-abbrev pub counted : LayerModel → ℕ → ℕ → LayerModel
-counted layer block n = record layer { holds = slice_set layer.holds block n }
-
--- the same pieces, none held and no more to come
-abbrev pub unheld : LayerModel → LayerModel
-unheld layer = record layer { is_open = false; holds = replicate (length layer.pieces) 0 }
-
--- the same layer with no more pieces to come
-abbrev pub shut : LayerModel → LayerModel
-shut layer = record layer { is_open = false }
+-- the words from one place to another
+abbrev pub between : List ℕ → ℕ → ℕ → List ℕ
+between words begin end = take (end - begin) (drop begin words)
 
 -- the words of a block's piece
 abbrev pub piece_in : LayerModel → ℕ → Option (List ℕ)
-piece_in layer block = slice_get layer.pieces block
-
--- how often a block's piece is held
-abbrev pub count_in : LayerModel → ℕ → ℕ
-count_in layer block = get_or layer.holds block 0
-
--- the layer of a serial
-abbrev pub layer_at : List LayerModel → ℕ → LayerModel
-layer_at layers serial = get_or layers serial empty_layer
-
-abbrev pub known_in : List LayerModel → KeepId → Option (List ℕ)
-known_in layers = λ id. piece_in (layer_at layers id.serial) id.block
-
-abbrev pub holds_in : List LayerModel → KeepId → ℕ
-holds_in layers = λ id. count_in (layer_at layers id.serial) id.block
-
--- how many holds these are
-abbrev pub held_in : List LayerModel → ℕ
-held_in layers = sum_by (λ (layer : LayerModel). sum layer.holds) layers
+piece_in layer block = option_map (λ end. between layer.words (begin_at layer.ends block) end) (slice_get layer.ends block)

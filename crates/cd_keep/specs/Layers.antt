@@ -1,13 +1,19 @@
--- The pieces of a layer, open or shared.
-use Rattle.std.specs.Prelude.{ℕ, Bool, true, false, List}
+-- The layers of a pass, its own or shared.
+use Rattle.std.specs.Prelude.{Bool, true, false, List, map}
 use Rattle.std.specs.Arc.{arc_value}
-use Rattle.cd_keep.specs.declared.pieces.Pieces.{Pieces}
-use Rattle.cd_keep.specs.declared.pieces.Pieces.TheVariants.{Open, Shared}
+use Rattle.std.specs.declared.sync.Arc.{Arc}
+use Rattle.cd_keep.specs.LayerModel.{LayerModel}
+use Rattle.cd_keep.specs.declared.layers.Layers.{Layers}
+use Rattle.cd_keep.specs.declared.layers.Layers.TheVariants.{Own, Shared}
 
-abbrev pub pieces_of : Pieces → List (List ℕ)
-pieces_of (Open list) = list.items
-pieces_of (Shared list) = (arc_value list).items
+-- what stands behind pointers
+abbrev pub values : {Z : Type 0} → List (Arc LayerModel Z) → List LayerModel
+values {Z} pointers = map (λ (p : Arc LayerModel Z). arc_value p) pointers
 
-abbrev pub are_open : Pieces → Bool
-are_open (Open list) = true
-are_open (Shared list) = false
+abbrev pub layers_of : Layers → List LayerModel
+layers_of (Own list) = values list.items
+layers_of (Shared list) = values (arc_value list).items
+
+abbrev pub are_own : Layers → Bool
+are_own (Own list) = true
+are_own (Shared list) = false

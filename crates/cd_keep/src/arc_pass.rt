@@ -1,33 +1,34 @@
 // A pass whose words stand behind shared pointers.
-ghost use Rattle.std.specs.Prelude.{◌≡◌, ◌+◌, ◌<◌, ◌≤◌, ◌^◌, None, IfOk, IsOk, IsSome, OnErr};
+ghost use Rattle.std.specs.Prelude.{◌≡◌, ◌+◌, ◌<◌, ◌≤◌, ◌^◌, None, length, IfOk, IsOk, IsSome, OnErr};
 ghost use Rattle.cd_keep.specs.PassModel.{AreShort, IsPiece, kept};
-ghost use Rattle.cd_keep.specs.LayerModel.{known_in, held_in};
+ghost use Rattle.cd_keep.specs.Kept.{known_of};
+ghost use Rattle.cd_keep.specs.Holding.{AreKnown};
 
-use crate::layer::Layer;
-use crate::layers::{hold, keep, let_go, unheld_copy, words};
+use crate::holds::Holds;
+use crate::kept::Kept;
 use crate::{GoneNote, KeepId, Pass};
-use cd_base::{Items, NoMemory};
+use cd_base::NoMemory;
 use std::alloc::Global;
 use std::sync::Wait;
 
 /// A pass whose words stay as long as a pass that has seen them does. Its `share` never answers Gone, and its `keep` does
 /// not wait: it is `keep_at_once`.
 ///
-/// A split copies no words: it takes one pointer for each layer of pieces, and one count for each piece.
+/// A split copies no words, and takes one pointer: to the list of the layers that relatives share. What was kept since the
+/// last split becomes a layer before; then a list that another pass still has is copied, one pointer for each layer.
 ///
 /// An id is new to the pass that keeps, and says nothing to one that has not seen it: two passes that were split off from
 /// one may give the same id to different words.
 #[derive(Drop)]
 pub struct ArcPass {
-    layers: Vec<Layer>,
-    held: u32,
+    kept: Kept,
+    holds: Holds,
     room: u32,
     most: u32,
-    alloc: Global,
-    ghost counted: { held ≡ held_in layers.items },
-    ghost within: { held + room ≤ most },
+    ghost within: { length holds.ids + room ≤ most },
     ghost few: { most < 2 ^ 32 },
-    ghost short: { AreShort (known_in layers.items) },
+    ghost short: { AreShort (known_of kept) },
+    ghost known: { AreKnown (known_of kept) holds.ids },
 }
 
 #[tactic(auto, unfolding(crate::specs::Arcs::model_of))]
@@ -40,11 +41,10 @@ impl ArcPass {
         ensures { IfOk result (λ pass. model_of pass ≡ opened 0 room) }
     {
         Ok(ArcPass {
-            layers: Vec::new(alloc),
-            held: 0,
+            kept: Kept::none(alloc),
+            holds: Holds::none(),
             room,
             most: room,
-            alloc,
         })
     }
 
@@ -56,9 +56,8 @@ impl ArcPass {
         ensures kept { IfOk result (λ id. model_of self.new ≡ kept (model_of self.old) id words.now) }
         ensures unchanged { OnErr result (model_of self.new ≡ model_of self.old) }
     {
-        let piece = Items::of(words.to_vec(self.alloc)?);
-        let id = keep(self.alloc, &mut self.layers, piece)?;
-        self.held += 1;
+        let id = self.kept.keep(words)?;
+        self.holds = self.holds.more(id);
         self.room -= 1;
         Ok(id)
     }
@@ -82,13 +81,11 @@ impl Pass for ArcPass {
     }
 
     fn split(&mut self, room: u32) -> Result<Self, NoMemory> {
-        let layers = unheld_copy(self.alloc, self.layers.as_mut_slice())?;
         let child = ArcPass {
-            layers,
-            held: 0,
+            kept: self.kept.seen()?,
+            holds: Holds::none(),
             room,
             most: self.most,
-            alloc: self.alloc,
         };
         self.room -= room;
         Ok(child)
@@ -100,23 +97,21 @@ impl Pass for ArcPass {
         ensures never_gone { IsOk result }
         ensures held { model_of self.new ≡ shared (model_of self.old) seen }
     {
-        hold(self.layers.as_mut_slice(), seen);
-        self.held += 1;
+        self.holds = self.holds.more(seen);
         self.room -= 1;
         Ok(())
     }
 
     fn word(&mut self, id: KeepId, i: u32) -> u64 {
-        words(self.layers.as_slice(), id)[i as usize]
+        self.kept.words(id)[i as usize]
     }
 
     fn fetch(&mut self, id: KeepId, into: &mut [u64]) {
-        into.copy_from_slice(words(self.layers.as_slice(), id));
+        into.copy_from_slice(self.kept.words(id));
     }
 
     fn give_up(&mut self, id: KeepId) {
-        let_go(self.layers.as_mut_slice(), id);
-        self.held -= 1;
+        self.holds = self.holds.fewer(id);
         self.room += 1;
     }
 

@@ -1,34 +1,26 @@
-// A layer of a pass: pieces of words in the order in which they were kept, and how often the pass holds each. More may be
-// put last until a pass is split off. From then on the pieces stand behind a shared pointer, and stay.
-ghost use Rattle.std.specs.Prelude.{◌≡◌, ◌+◌, ◌-◌, ◌<◌, ◌^◌, ◌∷◌, ◌++◌, [], Some, IsSome, IsTrue, ◌↔◌, length, unwrap_or, IfOk, OnOk, OnErr};
-ghost use Rattle.cd_keep.specs.LayerModel.{CanGrow, piece_in, count_in, empty_layer, pushed, counted, unheld};
+// A layer of a pass: the words of its pieces in one list, in the order in which they were kept, and where each piece ends.
+ghost use Rattle.std.specs.Prelude.{◌≡◌, ℕ, ◌+◌, ◌<◌, ◌≤◌, ◌^◌, ◌∷◌, ◌++◌, [], Some, IsSome, length, IfOk, OnOk, OnErr};
+ghost use Rattle.cd_keep.specs.LayerModel.{AreEnds, begin_at, piece_in, empty_layer, pushed};
 
-use crate::pieces::{Pieces, list, put_last, share};
-use cd_base::{Items, NoMemory};
+use cd_base::NoMemory;
 use std::alloc::Global;
 use std::marker::Model;
 
 #[derive(Drop)]
 pub(crate) struct Layer {
-    pieces: Pieces,
-    holds: Vec<u32>,
+    words: Vec<u64>,
+    ends: Vec<usize>,
 }
 
 impl Model for Layer {
-    ghost use Rattle.std.specs.Prelude.{◌≡◌, length};
-    ghost use Rattle.cd_keep.specs.LayerModel.{LayerModel};
+    ghost use Rattle.cd_keep.specs.LayerModel.{LayerModel, AreEnds};
 
     ghost Value = { LayerModel };
 
-    ghost use Rattle.cd_keep.specs.Layers.{pieces_of, are_open};
+    ghost view = { λ layer. record { words = layer.words.items; ends = layer.ends.items } };
 
-    ghost view = { λ layer. record { is_open = are_open layer.pieces; pieces = pieces_of layer.pieces; holds = layer.holds.items } };
-
-    ghost invariant = { λ layer. length layer.holds.items ≡ length (pieces_of layer.pieces) };
+    ghost invariant = { λ layer. AreEnds layer.words.items layer.ends.items };
 }
-
-// How many pieces a layer has at most, so that the number of each is a block.
-const MOST_PIECES: usize = 1 << 32;
 
 impl Layer {
     // A layer without pieces.
@@ -36,66 +28,49 @@ impl Layer {
         ensures { result ≡ empty_layer }
     {
         Layer {
-            pieces: Pieces::Open(Vec::new(alloc)),
-            holds: Vec::new(alloc),
+            words: Vec::new(alloc),
+            ends: Vec::new(alloc),
         }
     }
 
-    pub(crate) fn can_grow(&self) -> bool
-        ensures { IsTrue result ↔ CanGrow self.now }
+    // How many pieces there are.
+    pub(crate) fn count(&self) -> usize
+        ensures count { result ≡ length self.now.ends }
+        ensures sound { AreEnds self.now.words self.now.ends }
     {
-        self.holds.len() < MOST_PIECES && matches!(&self.pieces, Pieces::Open(_))
+        self.ends.len()
     }
 
-    // Puts a piece last, held once, and gives its block.
-    pub(crate) fn push(&mut self, piece: Items<u64>) -> Result<u32, NoMemory>
-        requires { CanGrow self.old }
-        ensures block { IfOk result (λ block. block ≡ length self.old.pieces) }
-        ensures layer { OnOk result (self.new ≡ pushed self.old piece) }
-        ensures even { length self.old.holds ≡ length self.old.pieces }
+    // Puts a piece last, and gives its block.
+    pub(crate) fn push(&mut self, piece: &[u64]) -> Result<u32, NoMemory>
+        requires { length self.old.ends < 2 ^ 32 }
+        ensures block { IfOk result (λ block. block ≡ length self.old.ends) }
+        ensures layer { OnOk result (self.new ≡ pushed self.old piece.now) }
+        ensures sound { AreEnds self.old.words self.old.ends }
         ensures unchanged { OnErr result (self.new ≡ self.old) }
     {
-        let block = self.holds.len() as u32;
-        self.holds.reserve(1)?;
-        put_last(&mut self.pieces, piece)?;
-        self.holds.push_reserved(1);
+        let block = self.ends.len() as u32;
+        self.ends.reserve(1)?;
+        self.words.extend_from_slice(piece)?;
+        self.ends.push_reserved(self.words.len());
         Ok(block)
     }
 
-    // The words of a block's piece, which is held.
+    // The words of a block's piece.
     pub(crate) fn words(&self, block: u32) -> &[u64]
-        requires { 0 < count_in self.now block }
+        requires { IsSome (piece_in self.now block) }
         ensures { piece_in self.now block ≡ Some result.now }
     {
-        list(&self.pieces)[block as usize].items()
+        let end = self.ends[block as usize];
+        let begin = begin_of(self.ends.as_slice(), block as usize);
+        &self.words[begin..end]
     }
+}
 
-    // One hold more of a block's piece.
-    pub(crate) fn hold(&mut self, block: u32)
-        requires known { IsSome (piece_in self.old block) }
-        requires fits { count_in self.old block + 1 < 2 ^ 32 }
-        ensures layer { self.new ≡ counted self.old block (count_in self.old block + 1) }
-        ensures there { block < length self.old.holds }
-    {
-        self.holds[block as usize] += 1;
-    }
-
-    // One hold less of a block's piece.
-    pub(crate) fn let_go(&mut self, block: u32)
-        requires { 0 < count_in self.old block }
-        ensures layer { self.new ≡ counted self.old block (count_in self.old block - 1) }
-        ensures there { block < length self.old.holds }
-    {
-        self.holds[block as usize] -= 1;
-    }
-
-    // The same pieces for another pass, which holds none of them.
-    pub(crate) fn unheld_copy(&mut self, alloc: Global) -> Result<Layer, NoMemory>
-        ensures copy { IfOk result (λ layer. layer ≡ unheld self.old) }
-        ensures same { self.new ≡ record self.old { is_open = self.new.is_open } }
-    {
-        let holds = vec![in alloc; 0; self.holds.len()]?;
-        let pieces = Pieces::Shared(share(&mut self.pieces, alloc)?);
-        Ok(Layer { pieces, holds })
-    }
+// Where the piece of a block begins: where the one before ends.
+fn begin_of(ends: &[usize], block: usize) -> usize
+    requires { block < length ends.now }
+    ensures { result ≡ begin_at ends.now block }
+{
+    if block == 0 { 0 } else { ends[block - 1] }
 }

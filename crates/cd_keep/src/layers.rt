@@ -1,119 +1,135 @@
-// The layers of a pass, oldest first: those that the pass it was split off from had, and one more for each time that it
-// kept words after a split, or that a layer was full. The serial of an id is the place of its layer, and the block the
-// place in it, so that it is found at once.
-ghost use Rattle.std.specs.Prelude.{◌≡◌, ◌+◌, ◌-◌, ◌<◌, ◌^◌, [], None, Some, IsSome, length, map, IfOk, OnOk, OnErr};
-ghost use Rattle.cd_keep.specs.PassModel.{known_with, one_more, one_less, none_held};
-ghost use Rattle.cd_keep.specs.LayerModel.{CanGrow, known_in, holds_in, held_in, layer_at, unheld, shut};
+// The layers that a pass has no more to put into, oldest first: a list of its own, or one that relatives share with it.
+ghost use Rattle.std.specs.Prelude.{◌≡◌, ◌∷◌, ◌++◌, [], true, false, map, IfOk, IfErr, OnOk, OnErr};
+ghost use Rattle.std.specs.Arc.{arc_value};
+ghost use Rattle.cd_keep.specs.Layers.{values, layers_of, are_own};
 
-use crate::KeepId;
 use crate::layer::Layer;
-use cd_base::{Items, NoMemory};
+use cd_base::NoMemory;
 use std::alloc::Global;
+use std::mem;
+use std::sync::Arc;
 
-// Keeps a piece. Without memory for it there may be a layer more, which has no pieces.
-pub(crate) fn keep(
-    alloc: Global,
-    layers: &mut Vec<Layer>,
-    piece: Items<u64>,
-) -> Result<KeepId, NoMemory>
-    ensures new { IfOk result (λ id. known_in layers.old.items id ≡ None) }
-    ensures known { IfOk result (λ id. known_in layers.new.items ≡ known_with (known_in layers.old.items) id piece) }
-    ensures holds { IfOk result (λ id. holds_in layers.new.items ≡ one_more (holds_in layers.old.items) id) }
-    ensures held { OnOk result (held_in layers.new.items ≡ held_in layers.old.items + 1) }
-    ensures known_still { OnErr result (known_in layers.new.items ≡ known_in layers.old.items) }
-    ensures holds_still { OnErr result (holds_in layers.new.items ≡ holds_in layers.old.items) }
-    ensures held_still { OnErr result (held_in layers.new.items ≡ held_in layers.old.items) }
-{
-    open_last(alloc, layers)?;
-    let id = keep_last(layers.as_mut_slice(), piece)?;
-    Ok(id)
+pub(crate) type LayerList = Vec<Arc<Layer, Global>>;
+
+#[derive(Drop)]
+pub(crate) enum Layers {
+    Own(LayerList),
+    Shared(Arc<LayerList, Global>),
 }
 
-// Sees to it that there is a last layer and that it takes one piece more.
-fn open_last(alloc: Global, layers: &mut Vec<Layer>) -> Result<(), NoMemory>
-    ensures known { known_in layers.new.items ≡ known_in layers.old.items }
-    ensures holds { holds_in layers.new.items ≡ holds_in layers.old.items }
-    ensures held { held_in layers.new.items ≡ held_in layers.old.items }
-    ensures last { OnOk result (0 < length layers.new.items) }
-    ensures grows { OnOk result (CanGrow (layer_at layers.new.items (length layers.new.items - 1))) }
+// The layers, as they stand.
+pub(crate) fn list(layers: &Layers) -> &[Arc<Layer, Global>]
+    ensures { values result.now ≡ layers_of layers.now }
 {
-    if let Some(layer) = layers.last()
-        && layer.can_grow()
-    {
-        return Ok(());
+    match layers {
+        Layers::Own(list) => list.as_slice(),
+        Layers::Shared(list) => list.as_slice(),
     }
-    layers.push(Layer::new(alloc))?;
+}
+
+// A second pointer to the list. From now on it is shared.
+pub(crate) fn share(layers: &mut Layers, alloc: Global) -> Result<Arc<LayerList, Global>, NoMemory>
+    ensures second { IfOk result (λ list. values (arc_value list).items ≡ layers_of layers.old) }
+    ensures same { layers_of layers.new ≡ layers_of layers.old }
+{
+    point(layers, alloc)?;
+    match layers {
+        Layers::Shared(list) => Ok(Arc::try_clone(list)?),
+        Layers::Own(_) => unreachable!(),
+    }
+}
+
+// Puts the list behind a pointer. Where there is no memory for it, it stays the pass's own.
+fn point(layers: &mut Layers, alloc: Global) -> Result<(), NoMemory>
+    ensures same { layers_of layers.new ≡ layers_of layers.old }
+    ensures shared { OnOk result (are_own layers.new ≡ false) }
+{
+    if let Layers::Own(list) = layers {
+        let own = mem::replace(list, Vec::new(alloc));
+        match Arc::new(alloc, own) {
+            Ok(shared) => *layers = Layers::Shared(shared),
+            Err(failed) => {
+                *list = failed.value;
+                return Err(NoMemory);
+            }
+        }
+    }
     Ok(())
 }
 
-// Keeps a piece in the last layer, which takes one more.
-fn keep_last(layers: &mut [Layer], piece: Items<u64>) -> Result<KeepId, NoMemory>
-    requires some { 0 < length layers.old }
-    requires grows { CanGrow (layer_at layers.old (length layers.old - 1)) }
-    ensures new { IfOk result (λ id. known_in layers.old id ≡ None) }
-    ensures known { IfOk result (λ id. known_in layers.new ≡ known_with (known_in layers.old) id piece) }
-    ensures holds { IfOk result (λ id. holds_in layers.new ≡ one_more (holds_in layers.old) id) }
-    ensures held { OnOk result (held_in layers.new ≡ held_in layers.old + 1) }
-    ensures unchanged { OnErr result (layers.new ≡ layers.old) }
+// Puts a layer last, or gives it back.
+pub(crate) fn put_last(layers: &mut Layers, alloc: Global, layer: Layer) -> Result<(), Layer>
+    ensures layers { OnOk result (layers_of layers.new ≡ layers_of layers.old ++ layer ∷ []) }
+    ensures unchanged { OnErr result (layers_of layers.new ≡ layers_of layers.old) }
+    ensures back { IfErr result (λ back. back ≡ layer) }
 {
-    let last = layers.len() - 1;
-    let block = layers[last].push(piece)?;
-    Ok(KeepId {
-        block,
-        serial: last as u64,
-    })
-}
-
-// The words of an id that is held.
-pub(crate) fn words(layers: &[Layer], id: KeepId) -> &[u64]
-    requires { 0 < holds_in layers.now id }
-    ensures { known_in layers.now id ≡ Some result.now }
-{
-    layers[id.serial as usize].words(id.block)
-}
-
-// One hold more of an id.
-pub(crate) fn hold(layers: &mut [Layer], id: KeepId)
-    requires known { IsSome (known_in layers.old id) }
-    requires few { held_in layers.old + 1 < 2 ^ 32 }
-    ensures known { known_in layers.new ≡ known_in layers.old }
-    ensures holds { holds_in layers.new ≡ one_more (holds_in layers.old) id }
-    ensures held { held_in layers.new ≡ held_in layers.old + 1 }
-{
-    layers[id.serial as usize].hold(id.block);
-}
-
-// One hold less of an id.
-pub(crate) fn let_go(layers: &mut [Layer], id: KeepId)
-    requires { 0 < holds_in layers.old id }
-    ensures known { known_in layers.new ≡ known_in layers.old }
-    ensures holds { holds_in layers.new ≡ one_less (holds_in layers.old) id }
-    ensures held { held_in layers.new + 1 ≡ held_in layers.old }
-{
-    layers[id.serial as usize].let_go(id.block);
-}
-
-// The same layers for another pass, which holds nothing of them.
-pub(crate) fn unheld_copy(alloc: Global, layers: &mut [Layer]) -> Result<Vec<Layer>, NoMemory>
-    ensures their_known { IfOk result (λ theirs. known_in theirs.items ≡ known_in layers.old) }
-    ensures their_holds { IfOk result (λ theirs. holds_in theirs.items ≡ none_held) }
-    ensures their_held { IfOk result (λ theirs. held_in theirs.items ≡ 0) }
-    ensures known { known_in layers.new ≡ known_in layers.old }
-    ensures holds { holds_in layers.new ≡ holds_in layers.old }
-    ensures held { held_in layers.new ≡ held_in layers.old }
-{
-    let theirs = copy_each(alloc, layers)?;
-    Ok(theirs)
-}
-
-// A copy of each layer. Where there is no memory for one, some of the layers may be shut already.
-fn copy_each(alloc: Global, layers: &mut [Layer]) -> Result<Vec<Layer>, NoMemory>
-    ensures theirs { IfOk result (λ theirs. theirs.items ≡ map unheld layers.new) }
-    ensures same { map shut layers.new ≡ map shut layers.old }
-{
-    let mut theirs = Vec::new(alloc);
-    for layer in layers {
-        theirs.push(layer.unheld_copy(alloc)?)?;
+    if own(layers, alloc).is_err() {
+        return Err(layer);
     }
-    Ok(theirs)
+    match layers {
+        Layers::Own(list) => push(list, alloc, layer),
+        Layers::Shared(_) => unreachable!(),
+    }
+}
+
+fn push(list: &mut LayerList, alloc: Global, layer: Layer) -> Result<(), Layer>
+    ensures layers { OnOk result (values list.new.items ≡ values list.old.items ++ layer ∷ []) }
+    ensures unchanged { OnErr result (values list.new.items ≡ values list.old.items) }
+    ensures back { IfErr result (λ back. back ≡ layer) }
+{
+    if list.reserve(1).is_err() {
+        return Err(layer);
+    }
+    match Arc::new(alloc, layer) {
+        Ok(pointer) => {
+            list.push_reserved(pointer);
+            Ok(())
+        }
+        Err(failed) => Err(failed.value),
+    }
+}
+
+// Makes the list the pass's own: the shared one itself where nobody else has it any more.
+fn own(layers: &mut Layers, alloc: Global) -> Result<(), NoMemory>
+    ensures same { layers_of layers.new ≡ layers_of layers.old }
+    ensures own { OnOk result (are_own layers.new ≡ true) }
+{
+    match mem::replace(layers, Layers::Own(Vec::new(alloc))) {
+        Layers::Own(list) => *layers = Layers::Own(list),
+        Layers::Shared(shared) => match unshared(shared, alloc) {
+            Ok(list) => *layers = Layers::Own(list),
+            Err(shared) => {
+                *layers = Layers::Shared(shared);
+                return Err(NoMemory);
+            }
+        },
+    }
+    Ok(())
+}
+
+fn unshared(
+    shared: Arc<LayerList, Global>,
+    alloc: Global,
+) -> Result<LayerList, Arc<LayerList, Global>>
+    ensures list { IfOk result (λ list. values list.items ≡ values (arc_value shared).items) }
+    ensures back { IfErr result (λ back. values (arc_value back).items ≡ values (arc_value shared).items) }
+{
+    match Arc::try_unwrap(shared) {
+        Ok(list) => Ok(list),
+        Err(shared) => match pointers(alloc, shared.as_slice()) {
+            Ok(list) => Ok(list),
+            Err(NoMemory) => Err(shared),
+        },
+    }
+}
+
+// One more pointer to each layer.
+fn pointers(alloc: Global, layers: &[Arc<Layer, Global>]) -> Result<LayerList, NoMemory>
+    ensures { IfOk result (λ list. values list.items ≡ values layers.now) }
+{
+    let mut list = Vec::new(alloc);
+    for layer in layers {
+        list.push(Arc::try_clone(layer)?)?;
+    }
+    Ok(list)
 }

@@ -13,11 +13,12 @@
 
 mod arc_pass;
 mod gone_note;
+mod holds;
 mod keep_id;
+mod kept;
 mod layer;
 mod layers;
 mod pass;
-mod pieces;
 
 pub use arc_pass::ArcPass;
 pub use gone_note::GoneNote;
