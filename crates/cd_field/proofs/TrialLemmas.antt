@@ -1,5 +1,5 @@
 -- The machine of the trials stays ready for the next call.
-use Rattle.std.proofs.Common.{◌≡◌, ℕ, true, ◌&&◌, ◌||◌, nat_lt, nat_le, ◌==◌, List, [], ◌∷◌, All, IsSome, arith, refl, ap, sym, subst, ◌∙◌}
+use Rattle.std.proofs.Common.{◌≡◌, ℕ, ◌+◌, ◌<◌, ◌≤◌, true, false, ◌&&◌, ◌||◌, nat_lt, nat_le, ◌==◌, List, [], ◌∷◌, All, IsSome, arith, refl, ap, sym, subst, ◌∙◌}
 use Rattle.std.proofs.lemmas.Bool.{or_left, or_right}
 use Rattle.std.proofs.lemmas.Bool.Decides.{nat_tests}
 use Rattle.std.proofs.lemmas.List.Elements.{All-nil, All-cons, All-head, All-tail}
@@ -11,7 +11,7 @@ use Rattle.cd_tree.specs.declared.document.Fault.{Fault}
 use Rattle.cd_tree.specs.declared.event.Event.{Event}
 use Rattle.cd_tree.specs.Scripts.{strikes_at, struck, words_struck}
 use Rattle.cd_field.specs.FieldModel.{FieldModel, ArePresent, IsPresent, begun, hits_at, part_of, reached_point, told, without, wrote}
-use Rattle.cd_field.specs.Trials.{board, IsAimed, IsReady}
+use Rattle.cd_field.specs.Trials.{board, one_word, IsAimed, IsReady, IsSame, HasLent, MayComeBack}
 use Rattle.cd_base.proofs.BoolLemmas.{by_test, or-none}
 
 -- the faults that strike at a point are of the script
@@ -64,8 +64,9 @@ ready_wrote m later at word is =
     ready_as m (wrote m at word) later is (λ p some. by_test (same_place at p) (λ t. rw t refl) (λ f. rw f some)) refl refl
 
 -- a part has what it writes
-in_board : (r i : ℕ) → ((0 == r) && (nat_le 2 i && nat_lt i 4)) ≡ true → ((0 == r) && (nat_le 0 i && nat_lt i 100)) ≡ true
-in_board r i h = grind (arith, nat_tests)
+in_board : (low high r i : ℕ) → high ≤ 100 → ((0 == r) && (nat_le low i && nat_lt i high)) ≡ true
+    → ((0 == r) && (nat_le 0 i && nat_lt i 100)) ≡ true
+in_board low high r i few h = grind (arith, nat_tests)
 
 pub part_there : (m part : FieldModel) (reads writes : List Range)
     → ((q : Place) → in_ranges writes q ≡ in_ranges (record { region = 0; low = 2; high = 4 } ∷ []) q)
@@ -73,7 +74,7 @@ pub part_there : (m part : FieldModel) (reads writes : List Range)
 part_there m part reads writes same is ready =
     let P : FieldModel → Type 0 = λ v. ArePresent v (record { region = 0; low = 2; high = 4 } ∷ []) in
     subst P (sym is) (λ p h.
-    let on_board : in_ranges board p ≡ true = or_left _ _ (in_board p.region p.index (sym (or-none _) ∙ h)) in
+    let on_board : in_ranges board p ≡ true = or_left _ _ (in_board 2 4 p.region p.index (omega arith) (sym (or-none _) ∙ h)) in
     let t : (in_ranges reads p || in_ranges writes p) ≡ true = or_right (in_ranges reads p) (in_ranges writes p) (same p ∙ h) in
     record { known = rw t (ready.each p on_board).known; here = refl })
 
@@ -98,3 +99,39 @@ part_ready m part reads writes same is ready =
 pub rest_ready : (m later : FieldModel) (writes : List Range) → writes ≡ [] → later ≡ without m writes → IsReady m → IsReady later
 rest_ready m later writes none is =
     ready_as m (without m []) later (is ∙ ap (without m) none) (λ p some. some) refl refl
+
+-- ---- a part with one word to write goes out and comes back
+
+one_on_board : (index : ℕ) (p : Place) → index < 4 → in_ranges (one_word index) p ≡ true → in_ranges board p ≡ true
+one_on_board index p few h =
+    or_left _ _ (in_board index (index + 1) p.region p.index (omega (arith, few)) (sym (or-none _) ∙ h))
+
+pub one_present : (m : FieldModel) (writes : List Range) (index : ℕ) → index < 4
+    → ((q : Place) → in_ranges writes q ≡ in_ranges (one_word index) q) → IsReady m → ArePresent m writes
+one_present m writes index few same ready p h = ready.each p (one_on_board index p few (sym (same p) ∙ h))
+
+pub may_come_back : (m later part : FieldModel) (reads writes : List Range) (index : ℕ)
+    → ((q : Place) → in_ranges writes q ≡ in_ranges (one_word index) q) → part ≡ part_of m reads writes → later ≡ without m writes
+    → MayComeBack later part index
+may_come_back m later part reads writes index same is rest = record {
+  script = ap (λ (v : FieldModel). v.script) is ∙ sym (ap (λ (v : FieldModel). v.script) rest);
+  carved = λ p. ap (λ (v : FieldModel). in_ranges v.carved p) is ∙ same p;
+}
+
+pub has_lent : (m later : FieldModel) (writes : List Range) (index : ℕ) → ((q : Place) → in_ranges writes q ≡ in_ranges (one_word index) q)
+    → later ≡ without m writes → IsReady m → HasLent later index
+has_lent m later writes index same rest ready =
+    let P : FieldModel → Type 0 = λ v. HasLent v index in
+    subst P (sym rest) (record {
+      known = λ p h. (ready.each p h).known;
+      here = λ p h off. let no : in_ranges writes p ≡ false = same p ∙ off in rw no (ready.each p h).here;
+      away = λ p h. let yes : in_ranges writes p ≡ true = same p ∙ h in rw yes refl;
+      aimed = ready.aimed;
+    })
+
+-- the same script and the same places to write, where the rest is another
+pub same_as : (m v later : FieldModel) → later ≡ v → v.script ≡ m.script → v.carved ≡ m.carved → IsSame m later
+same_as m v later is script carved = record {
+  script = ap (λ (u : FieldModel). u.script) is ∙ script;
+  carved = ap (λ (u : FieldModel). u.carved) is ∙ carved;
+}

@@ -1,7 +1,8 @@
-// A list of events that grows without copying what it has: full parts are only ever moved.
-ghost use Rattle.std.specs.Prelude.{◌≡◌, ◌++◌, ◌∷◌, [], ◌+◌, ◌<◌, ◌≤◌, length, OnOk, slice_get};
-ghost use Rattle.cd_field.specs.EventLists.{before_part, events_in, events_of, IsNumbered};
+// A list of events that grows without copying what it has: parts of many events are only ever moved.
+ghost use Rattle.std.specs.Prelude.{◌≡◌, ◌++◌, ◌∷◌, [], ◌+◌, ◌-◌, ◌<◌, ◌≤◌, length, min, take, drop, IfOk, OnOk, slice_get, option_map};
+ghost use Rattle.cd_field.specs.EventLists.{before_part, event_told, events_told, events_in, events_of, IsNumbered};
 
+use crate::told::Told;
 use cd_base::NoMemory;
 use cd_tree::Event;
 use std::alloc::Global;
@@ -13,7 +14,7 @@ const FULL: usize = 1024;
 #[derive(Drop)]
 pub(crate) struct Part {
     first: u128,
-    events: Vec<Event>,
+    events: Vec<Told>,
 }
 
 /// Parts one after another, and the number of their events. Wide numbers count them, since lists may be joined without end.
@@ -37,8 +38,8 @@ impl Parts {
     }
 
     /// Adds events behind all others.
-    fn add(&mut self, events: Vec<Event>) -> Result<(), NoMemory>
-        ensures { OnOk result (events_in self.new.parts.items ≡ events_in self.old.parts.items ++ events.items) }
+    fn add(&mut self, events: Vec<Told>) -> Result<(), NoMemory>
+        ensures { OnOk result (events_in self.new.parts.items ≡ events_in self.old.parts.items ++ events_told events.items) }
     {
         let first = self.count;
         let count = first + events.len() as u128;
@@ -47,22 +48,16 @@ impl Parts {
         Ok(())
     }
 
-    /// The k-th event, from 0.
-    fn get(&self, k: u64) -> Option<Event>
+    /// The events from the k-th on, from 0, up to the end of its part.
+    fn rest(&self, k: u64) -> &[Told]
         requires { k < self.now.count }
-        ensures { result ≡ slice_get (events_in self.now.parts.items) k }
+        ensures { (0 < length result.now) × (events_told result.now ≡ take (length result.now) (drop k (events_in self.now.parts.items))) }
     {
         let k = u128::from(k);
         let i = find_part(self.parts.as_slice(), self.count, k);
         let part = &self.parts[i];
-        nth(part.events.as_slice(), (k - part.first) as u64)
+        behind(part.events.as_slice(), (k - part.first) as usize)
     }
-}
-
-fn nth(events: &[Event], k: u64) -> Option<Event>
-    ensures { result ≡ slice_get events.now k }
-{
-    events.get(k as usize).copied()
 }
 
 // The part that has the k-th event: half of what is left goes at each look.
@@ -90,7 +85,7 @@ fn find_part(parts: &[Part], count: u128, k: u128) -> usize
 #[derive(Drop)]
 pub(crate) struct EventList {
     parts: Parts,
-    latest: Vec<Event>,
+    latest: Vec<Told>,
     alloc: Global,
 }
 
@@ -107,29 +102,29 @@ impl EventList {
     }
 
     /// Puts an event last.
+    #[inline(always)]
     pub(crate) fn push(&mut self, event: Event) -> Result<(), NoMemory>
         ensures { OnOk result (events_of self.new.parts.parts.items self.new.latest.items ≡ events_of self.old.parts.parts.items self.old.latest.items ++ event ∷ []) }
     {
         if self.latest.len() >= FULL {
             self.close()?;
         }
-        self.latest.push(event)?;
+        let told = Told::of(self.alloc, event)?;
+        self.latest.push(told)?;
         Ok(())
     }
 
-    /// Puts the events of another list behind those of this one. Full parts are only ever moved; where both lists have few
-    /// events they become one part.
+    /// Puts the events of another list behind those of this one, part by part.
     pub(crate) fn append(&mut self, other: EventList) -> Result<(), NoMemory>
         ensures { OnOk result (events_of self.new.parts.parts.items self.new.latest.items ≡ events_of self.old.parts.parts.items self.old.latest.items ++ events_of other.parts.parts.items other.latest.items) }
     {
         let EventList { parts, latest, .. } = other;
-        if parts.parts.is_empty() && self.latest.len() + latest.len() <= FULL {
-            self.latest.extend_from_slice(latest.as_slice())?;
-            return Ok(());
+        let Parts { parts, .. } = parts;
+        for part in parts {
+            let Part { events, .. } = part;
+            self.join(events)?;
         }
-        self.close()?;
-        add_parts(&mut self.parts, parts)?;
-        self.latest = latest;
+        self.join(latest)?;
         Ok(())
     }
 
@@ -137,12 +132,51 @@ impl EventList {
     pub(crate) fn get(&self, k: u64) -> Option<Event>
         ensures { result ≡ slice_get (events_of self.now.parts.parts.items self.now.latest.items) k }
     {
+        first_of(self.rest(k))
+    }
+
+    /// Puts the events from one on to below another behind those of a list.
+    pub(crate) fn copy(&self, from: u64, to: u64, list: &mut Vec<Event>) -> Result<(), NoMemory>
+        ensures { OnOk result (list.new.items ≡ list.old.items ++ take (to - from) (drop from (events_of self.now.parts.parts.items self.now.latest.items))) }
+    {
+        let mut k = from;
+        while k < to {
+            let rest = self.rest(k);
+            let count = add_front(rest, to - k, list)?;
+            if count == 0 {
+                return Ok(());
+            }
+            k += count;
+        }
+        Ok(())
+    }
+
+    // Events that stand together: those from the k-th on, none at the end of the list.
+    fn rest(&self, k: u64) -> &[Told]
+        ensures front { events_told result.now ≡ take (length result.now) (drop k (events_of self.now.parts.parts.items self.now.latest.items)) }
+        ensures end { length result.now ≡ 0 → drop k (events_of self.now.parts.parts.items self.now.latest.items) ≡ [] }
+    {
         let count = self.parts.count;
         if u128::from(k) < count {
-            self.parts.get(k)
+            self.parts.rest(k)
         } else {
-            nth(self.latest.as_slice(), (u128::from(k) - count) as u64)
+            behind(self.latest.as_slice(), (u128::from(k) - count) as usize)
         }
+    }
+
+    // Puts events last: they join the latest where both are few, and are the latest otherwise. So two parts in a row have more
+    // than a part may have.
+    fn join(&mut self, events: Vec<Told>) -> Result<(), NoMemory>
+        ensures { OnOk result (events_of self.new.parts.parts.items self.new.latest.items ≡ events_of self.old.parts.parts.items self.old.latest.items ++ events_told events.items) }
+    {
+        let mut events = events;
+        if self.latest.len() + events.len() <= FULL {
+            self.latest.append(&mut events)?;
+            return Ok(());
+        }
+        self.close()?;
+        self.latest = events;
+        Ok(())
     }
 
     // The latest events become a part.
@@ -159,14 +193,40 @@ impl EventList {
     }
 }
 
-// Adds the parts of another list behind all others.
-fn add_parts(parts: &mut Parts, more: Parts) -> Result<(), NoMemory>
-    ensures { OnOk result (events_in parts.new.parts.items ≡ events_in parts.old.parts.items ++ events_in more.parts.items) }
+// The first of some events.
+#[inline(always)]
+fn first_of(events: &[Told]) -> Option<Event>
+    ensures { result ≡ option_map event_told (slice_get events.now 0) }
 {
-    let Parts { parts: list, .. } = more;
-    for part in list {
-        let Part { events, .. } = part;
-        parts.add(events)?;
+    match events.first() {
+        Some(told) => Some(told.event()),
+        None => None,
+    }
+}
+
+// The events from the k-th on.
+fn behind(events: &[Told], k: usize) -> &[Told]
+    ensures { result.now ≡ drop k events.now }
+{
+    if k < events.len() { &events[k..] } else { &[] }
+}
+
+// Puts the first of some events behind those of a list, and no more than a number of them. Gives how many.
+fn add_front(events: &[Told], most: u64, list: &mut Vec<Event>) -> Result<u64, NoMemory>
+    ensures count { IfOk result (λ count. count ≡ min most (length events.now)) }
+    ensures items { IfOk result (λ count. list.new.items ≡ list.old.items ++ events_told (take count events.now)) }
+{
+    let count = most.min(events.len() as u64);
+    add_all(&events[..count as usize], list)?;
+    Ok(count)
+}
+
+// Puts events behind those of a list.
+fn add_all(events: &[Told], list: &mut Vec<Event>) -> Result<(), NoMemory>
+    ensures { OnOk result (list.new.items ≡ list.old.items ++ events_told events.now) }
+{
+    for told in events {
+        list.push(told.event())?;
     }
     Ok(())
 }

@@ -27,6 +27,7 @@ mod script_field;
 mod shared_faults;
 mod shared_words;
 mod spans;
+mod told;
 mod words;
 
 pub use field::Field;

@@ -14,8 +14,8 @@ use cd_tree::{Event, Kinds, NodeId, Regions, Script};
 use std::alloc::Global;
 
 /// The shipped machine. Its words stand in a list for each region, found by the region's number; a part shares them with the
-/// machine that it was carved from until one of them changes there or here. The script is shared by all parts, and a record
-/// of many events is handed over in parts that are never copied.
+/// machine that it was carved from until one of them changes there or here. The script is shared by all parts. An
+/// event takes 16 bytes, and a record of many is handed over part by part.
 #[derive(Drop)]
 pub struct ScriptField {
     words: FlatWords,
@@ -167,5 +167,9 @@ impl Field for ScriptField {
 
     fn event(&self, k: u64) -> Option<Event> {
         self.events.get(k)
+    }
+
+    fn events(&self, from: u64, to: u64, list: &mut Vec<Event>) -> Result<(), NoMemory> {
+        self.events.copy(from, to, list)
     }
 }

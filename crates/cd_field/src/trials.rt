@@ -1,9 +1,9 @@
 // One long random sequence of calls, made on both machines, which give the same at each step.
 ghost use Rattle.std.specs.Prelude.{◌≡◌, ◌<◌, true, All, OnOk, IfOk};
 ghost use Rattle.cd_base.specs.Words.{in_ranges};
-ghost use Rattle.cd_field.specs.Trials.{board, IsAimed, IsReady};
+ghost use Rattle.cd_field.specs.Trials.{board, IsAimed, IsReady, IsSame, HasLent, MayComeBack};
 
-use crate::board::{fault, load_board, look, places, whole_board};
+use crate::board::{fault, load_board, look, place, places, whole_board};
 use crate::{Field, MapField, ScriptField};
 use cd_base::{Items, Pattern, Place, Places, Range};
 use cd_tree::{Kept, Kind, NodeId, Script};
@@ -42,8 +42,8 @@ fn pick_place(random: u64) -> Place
     }
 }
 
-// Some strike together at one point, two of them the same word.
-fn five_faults(alloc: Global) -> Result<Script, Fail>
+// Some strike together at one point, two of them the same word; two strike in a part before any domain begins there.
+fn some_faults(alloc: Global) -> Result<Script, Fail>
     ensures { IfOk result (λ script. All IsAimed script) }
 {
     let mut script = Items::new(alloc);
@@ -52,13 +52,16 @@ fn five_faults(alloc: Global) -> Result<Script, Fail>
     script.push(fault(2, 1, 3, 1, 256))?;
     script.push(fault(1, 0, 4, 0, 255))?;
     script.push(fault(2, 2, 1, 2, 257))?;
+    script.push(fault(0, 1, 2, 2, 17))?;
+    script.push(fault(0, 2, 3, 0, 33))?;
     Ok(script)
 }
 
 // A call that changes words.
 fn change<F: Field>(field: &mut F, random: u64) -> Result<(), Fail>
     requires { IsReady (F.model field.old) }
-    ensures { OnOk result (IsReady (F.model field.new)) }
+    ensures ready { OnOk result (IsReady (F.model field.new)) }
+    ensures same { OnOk result (IsSame (F.model field.old) (F.model field.new)) }
 {
     let place = pick_place(random);
     match pick(random, 1 << 40, 4) {
@@ -151,6 +154,56 @@ fn hand_over<F: Field>(field: &mut F, alloc: Global, random: u64) -> Result<(), 
     Ok(())
 }
 
+// A part that has the whole board, and shares it but for one word, which is its to write.
+fn part_to_write<F: Field>(field: &mut F, alloc: Global, index: u32) -> Result<F, Fail>
+    requires ready { IsReady (F.model field.old) }
+    requires within { index < 4 }
+    ensures ready { IfOk result (λ part. IsReady (F.model part)) }
+    ensures mine { IfOk result (λ part. MayComeBack (F.model field.new) (F.model part) index) }
+    ensures lent { OnOk result (HasLent (F.model field.new) index) }
+    ensures same { OnOk result (IsSame (F.model field.old) (F.model field.new)) }
+{
+    let reads = whole_board(alloc)?;
+    let writes = places(alloc, index, index + 1)?;
+    let part = field.carve(&reads, &writes)?;
+    Ok(part)
+}
+
+// A part comes back, with commit or without; its word is here then.
+fn come_back<F: Field>(field: &mut F, part: F, index: u32, random: u64) -> Result<(), Fail>
+    requires within { index < 4 }
+    requires lent { HasLent (F.model field.old) index }
+    requires ready { IsReady (F.model part) }
+    requires mine { MayComeBack (F.model field.old) (F.model part) index }
+    ensures ready { OnOk result (IsReady (F.model field.new)) }
+    ensures same { OnOk result (IsSame (F.model field.old) (F.model field.new)) }
+{
+    if pick(random, 1 << 32, 2) == 0 {
+        field.absorb(part, true)?;
+    } else {
+        field.absorb(part, false)?;
+        field.refill(place(index), random);
+    }
+    Ok(())
+}
+
+// A part changes words that it shares, has such a part of its own, as deep as is asked, and comes back.
+fn hand_down<F: Field>(field: &mut F, alloc: Global, random: u64, depth: u32) -> Result<(), Fail>
+    requires { IsReady (F.model field.old) }
+    ensures ready { OnOk result (IsReady (F.model field.new)) }
+    ensures same { OnOk result (IsSame (F.model field.old) (F.model field.new)) }
+{
+    change(field, random)?;
+    if depth == 0 {
+        return Ok(());
+    }
+    let index = pick(random, 1 << 36, 4) as u32;
+    let mut part = part_to_write(field, alloc, index)?;
+    hand_down(&mut part, alloc, next(random), depth - 1)?;
+    come_back(field, part, index, random)?;
+    Ok(())
+}
+
 fn step<F: Field>(field: &mut F, alloc: Global, random: u64) -> Result<(), Fail>
     requires { IsReady (F.model field.old) }
     ensures { OnOk result (IsReady (F.model field.new)) }
@@ -160,6 +213,7 @@ fn step<F: Field>(field: &mut F, alloc: Global, random: u64) -> Result<(), Fail>
         1 => tell_entry(field, random)?,
         2 => tell_end(field, random)?,
         3 => change_run(field, random)?,
+        4 => hand_down(field, alloc, random, 3)?,
         _ => change(field, random)?,
     }
     Ok(())
@@ -176,7 +230,7 @@ fn same_event<F: Field, G: Field>(field: &F, other: &G, k: u64) -> Result<bool, 
 }
 
 // Both machines give the same: the words, the notes, and the events from a number on, up to one that neither has. A turn
-// tells at most six. Gives the number of events.
+// tells at most eight. Gives the number of events.
 fn agree<F: Field, G: Field>(field: &F, other: &G, from: u64) -> Result<u64, Fail>
     requires one { IsReady (F.model field.now) }
     requires both { IsReady (G.model other.now) }
@@ -185,7 +239,7 @@ fn agree<F: Field, G: Field>(field: &F, other: &G, from: u64) -> Result<u64, Fai
         return Err(Fail::new(format_args!("words or notes after {from} events")));
     }
     let mut count = from;
-    for _more in 0..8 {
+    for _more in 0..12 {
         if !same_event(field, other, count)? {
             return Ok(count);
         }
@@ -281,7 +335,7 @@ fn turn_both<F: Field, G: Field>(
 
 // Each turn compares both machines. At the end the whole record is compared once more.
 fn run_both<F: Field, G: Field>(alloc: Global, field: &mut F, other: &mut G) -> Result<(), Fail> {
-    let script = five_faults(alloc)?;
+    let script = some_faults(alloc)?;
     load_board(field, alloc, Pattern::Mix(9), &script)?;
     load_board(other, alloc, Pattern::Mix(9), &script)?;
     let mut random = 7;

@@ -5,9 +5,9 @@ ghost use Rattle.cd_base.specs.Ends.{WriteAll};
 ghost use Rattle.cd_report.specs.Records.{events_text, record_text};
 
 use crate::events::event_line;
-use cd_base::{Sink, WriteStop, write_all};
+use cd_base::{NoMemory, Sink, WriteStop, write_all};
 use cd_field::Field;
-use cd_tree::{KindName, Region};
+use cd_tree::{Event, KindName, Region};
 use std::alloc::{AllocError, Global};
 
 const HEAD: &str = "record\n";
@@ -48,17 +48,29 @@ fn events_between<F: Field>(
     machine: &F,
     from: u64,
     to: u64,
-) -> Result<String, AllocError>
-    requires kinds { length kinds.now ≤ kinds_limit }
-    requires order { from ≤ to }
+) -> Result<String, NoMemory>
+    requires { length kinds.now ≤ kinds_limit }
     ensures { IfOk result (λ text. string_bytes text ≡ events_text kinds.now regions.now (take (to - from) (drop from (F.model machine.now).events))) }
 {
+    let mut events = Vec::new(alloc);
+    machine.events(from, to, &mut events)?;
+    let text = lines_of(alloc, kinds, regions, events.as_slice())?;
+    Ok(text)
+}
+
+/// The lines of some events.
+fn lines_of(
+    alloc: Global,
+    kinds: &[KindName],
+    regions: &[Region],
+    events: &[Event],
+) -> Result<String, AllocError>
+    requires { length kinds.now ≤ kinds_limit }
+    ensures { IfOk result (λ text. string_bytes text ≡ events_text kinds.now regions.now events.now) }
+{
     let mut text = String::new(alloc);
-    for k in from..to {
-        match machine.event(k) {
-            None => return Ok(text),
-            Some(event) => text.push_str(&event_line(alloc, kinds, regions, event)?)?,
-        }
+    for event in events {
+        text.push_str(&event_line(alloc, kinds, regions, *event)?)?;
     }
     Ok(text)
 }
