@@ -18,7 +18,6 @@ use cd_tree::{Domain, Item, Kinds, NodeId, laws};
 
 // A domain from its begin to its end. Most domains of a large program are plain, and need no walk.
 #[cycle(reading)]
-#[inline(always)]
 pub(crate) fn read_domain(case: &Case, id: NodeId, counts: &mut [u64]) -> Ended
     requires case { IsCase case.now }
     requires node { id.0 < length (domains_of case.now) }
@@ -36,7 +35,6 @@ pub(crate) fn read_domain(case: &Case, id: NodeId, counts: &mut [u64]) -> Ended
 
 // As many tries of a domain as it has, while they fail.
 #[cycle(reading)]
-#[inline(never)]
 fn read_tries(case: &Case, id: NodeId, counts: &mut [u64]) -> Ended
     requires case { IsCase case.now }
     requires node { id.0 < length (domains_of case.now) }
