@@ -227,3 +227,29 @@ pub end_given : (variables : List Variable) (reading : Reading) (value : ℕ) (r
     → sum_behind variables reading rest ≡ expression variables token → IfSome result (λ sum. expression variables token ≡ Ok sum)
 end_given variables reading value None token rest plain is last whole = tt
 end_given variables reading value (Some sum) token rest plain is last whole = sym whole ∙ read_end variables reading value sum rest plain is last
+
+-- ---- digits alone
+
+digit_plain : (b : ℕ) → is_digit b ≡ true → is_operator b ≡ false
+digit_plain b is = grind (arith, nat_tests)
+
+digits_plain : (n value : ℕ) (bytes : List ℕ) → HasDigits n value bytes → IsPlain bytes
+digits_plain n value [] has = tt
+digits_plain n value (b ∷ bytes) has = (digit_plain b has.0, digits_plain (10 * n + (b - 48)) value bytes has.1)
+
+-- digits alone are an expression
+pub digits_expression : (variables : List Variable) (value : ℕ) (token : List ℕ) → 0 < length token → HasDigits 0 value token
+    → expression variables token ≡ Ok value
+digits_expression variables value token some has =
+    let few : value < 2 ^ 64 = (all_digits 0 value token has).2 in
+    let whole : in_64_bits (0 + 1 * value) ≡ Ok value = ap in_64_bits (one_factor value) ∙ fits value few in
+    let last : IsLast (record { sum = 0; sign = 43; product = 1 }) value value = record {
+      fits = omega (arith, few);
+      sum = whole;
+    } in
+    sym (read_none variables token)
+    ∙ read_end variables (record { sum = 0; sign = 43; product = 1 }) value value token (digits_plain 0 value token has)
+    (digits_atom variables value token some has) last
+  where
+    one_factor : (n : ℕ) → 0 + 1 * n ≡ n
+    one_factor n = omega arith

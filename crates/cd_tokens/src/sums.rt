@@ -321,6 +321,27 @@ fn quick_joined(sign: u8, a: u64, b: u64) -> Option<u64>
 fn quick(variables: &[Variable], token: &[u8]) -> Option<u64>
     ensures { IfSome result (λ value. expression variables.now token.now ≡ Ok value) }
 {
+    match quick_number(token) {
+        Some(value) => Some(value),
+        None => quick_sum(variables, token),
+    }
+}
+
+// The value of a token of digits alone.
+fn quick_number(token: &[u8]) -> Option<u64>
+    ensures { IfSome result (λ value. (0 < length token.now) × HasDigits 0 value token.now) }
+{
+    if token.is_empty() {
+        None
+    } else {
+        quick_digits(token)
+    }
+}
+
+// The value of terms with which nothing is wrong; else maybe none.
+fn quick_sum(variables: &[Variable], token: &[u8]) -> Option<u64>
+    ensures { IfSome result (λ value. expression variables.now token.now ≡ Ok value) }
+{
     let mut reading = Reading {
         sum: 0,
         sign: b'+',
