@@ -1,5 +1,6 @@
 -- The root at its start answers its ask; where it has ended, as its ask says, the program has run.
-use Rattle.std.proofs.Common.{◌≡◌, ℕ, zero, suc, ◌-◌, true, false, List, [], ◌∷◌, map, slice_get, slice_index, Option, Some, IsSome, Contains, inr, refl, ap, subst, sym, ◌∙◌, fun_ext}
+use Rattle.std.proofs.Common.{◌≡◌, ℕ, zero, suc, ◌-◌, true, false, List, [], ◌∷◌, map, slice_get, slice_index, Option, Some, IsSome, Contains, inr, refl, ap, subst, sym, ◌∙◌}
+use Rattle.std.proofs.Math.Path.{fun_ext}
 use Rattle.std.proofs.lemmas.Bool.{or_left}
 use Rattle.cd_base.specs.declared.place.Place.{Place}
 use Rattle.cd_base.specs.Words.{Words}
@@ -125,16 +126,16 @@ same_meaning acts d v w shapes same q h =
 module _ (l : MoreLaws) (acts : DomainsActLocally) (shapes : ShapesFitInPrograms) (plan : PlanModel) (is_plan : IsPlan plan) (was : FieldModel)
     (p : PassModel) (can : CanStart plan was p) (s : StateModel) (ending : Ending)
     (a : Answers plan was.script was.words (root_ask plan was.words) s) (is : s.stage ≡ Ended ending) where
-  abbrev d : Node
-  d = root_of plan.tree.domains
+  abbrev root : Node
+  root = root_of plan.tree.domains
 
-  here : (q : Place) → node_reach d q ≡ true → IsSome (was.words q)
+  here : (q : Place) → node_reach root q ≡ true → IsSome (was.words q)
   here q h = (can.present q h).known
 
   abbrev t : Task
   t = own l plan is_plan was.script was.words here
 
-  same : SameWords (node_reach d) t.words was.words
+  same : SameWords (node_reach root) t.words was.words
   same = words_same l plan is_plan was.script was.words here
 
   stands : Stands plan t s
@@ -142,7 +143,7 @@ module _ (l : MoreLaws) (acts : DomainsActLocally) (shapes : ShapesFitInPrograms
       let S : Node → Type 0 = λ x. Stands plan (task_of plan was.script was.words (root_ask plan was.words) x) s in
       let T : Task → Type 0 = λ x. Stands plan x s in
       subst T (asked_is l plan is_plan was.script was.words here)
-      (subst S (one_root a.domain d (sym a.is ∙ there l plan is_plan was.script was.words here)) a.stands)
+      (subst S (one_root a.domain root (sym a.is ∙ there l plan is_plan was.script was.words here)) a.stands)
 
   arrived : StandsArrived plan t s ending
   arrived = let A : Stage → Type 0 = λ x. StandsAt plan t s x in subst A is stands.stage
@@ -153,26 +154,26 @@ module _ (l : MoreLaws) (acts : DomainsActLocally) (shapes : ShapesFitInPrograms
   first : s.node.0 ≡ 0
   first = sym stands.domain ∙ number l plan is_plan was.script was.words here
 
-  mine_is : mine ≡ d
+  mine_is : mine ≡ root
   mine_is =
       let at : node_of plan.tree.domains s.node ≡ node_of plan.tree.domains (record { 0 = 0 }) =
       ap (λ (n : ℕ). node_of plan.tree.domains (record { 0 = n })) first in
-      one_root mine d (sym stands.fits.is ∙ at ∙ there l plan is_plan was.script was.words here)
+      one_root mine root (sym stands.fits.is ∙ at ∙ there l plan is_plan was.script was.words here)
 
   fits : FitsEnded plan mine s ending
   fits = let F : Stage → Type 0 = λ x. FitsStage plan mine stands.fits.domain s x in subst F is stands.fits.stage
 
   sound_as : (e : Ending) → Sound plan t s.field e → Sound plan (root_task plan was) s.field e
-  sound_as (Done leak) sound none agree =
-      let links : LinksAgree plan t =
+  sound_as (Done leak) sound = λ none agree.
+      (let links : LinksAgree plan t =
       λ reference entry outer there. absurd (none_out l plan is_plan was.script was.words here reference outer) in
-      let both : IsHere d s.field × SameWords (node_reach d) s.field.words (node_meaning d t.words) = sound none links in (
+      let both : IsHere root s.field × SameWords (node_reach root) s.field.words (node_meaning root t.words) = sound none links in (
         both.0,
         λ q h. both.1 q h
-            ∙ same_meaning acts d t.words was.words (shapes plan.tree is_plan.program (record { 0 = 0 }) d (there l plan is_plan was.script was.words here)) same q h,
-      )
-  sound_as (Escalated cause over) sound top =
-      let both : IsHere d s.field × SameWords (node_reach d) s.field.words t.words = sound top in (both.0, λ q h. both.1 q h ∙ same q h)
+            ∙ same_meaning acts root t.words was.words (shapes plan.tree is_plan.program (record { 0 = 0 }) root (there l plan is_plan was.script was.words here)) same q h,
+      ))
+  sound_as (Escalated cause over) sound = λ begun_at.
+      (let both : IsHere root s.field × SameWords (node_reach root) s.field.words t.words = sound begun_at in (both.0, λ q h. both.1 q h ∙ same q h))
 
   root_ran : Ran plan was s.field s.counts ending
   root_ran =
