@@ -38,7 +38,7 @@ use Rattle.cd_core.specs.declared.state.Outcome.TheVariants.{Committed, Exhauste
 use Rattle.cd_core.specs.Stands.{Sound, ending_of}
 use Rattle.cd_core.specs.Steps.{root_task}
 use Rattle.cd_core.specs.Tasks.{LinksAgree}
-use Rattle.cd_fork.specs.Running.{FewBegins, Ran, RanTo}
+use Rattle.cd_core.specs.Running.{FewBegins, Ran, RanTo}
 use Rattle.cd_report.specs.Reports.{last_words}
 use Rattle.cd_app.specs.Parts.{IsPassed}
 use Rattle.cd_app.specs.Parting.{IsCarved, CanTakeBack, TookBack}
@@ -222,7 +222,7 @@ carving : (document : Document) (plan : PlanModel) (script : List Fault) (reads 
     (begins : List ℕ) (cause : Option Cause) → Written document plan script reads writes now begins cause
     → (p : Place) → in_ranges now.carved p ≡ node_writes (root_of plan.tree.domains) p
 carving document plan script reads writes now begins cause run p =
-    ap (λ (rs : List Range). in_ranges rs p) run.ended.ran.carved ∙ run.writing p
+    run.ended.ran.carved p ∙ run.writing p
 
 holds_run : (l : EndLaws) (document : Document) (plan : PlanModel) (script : List Fault) (reads writes : List Range) (now : FieldModel)
     (begins : List ℕ) (cause : Option Cause) → Written document plan script reads writes now begins cause → IsAccepted plan.tree script

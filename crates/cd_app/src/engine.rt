@@ -2,7 +2,7 @@
 
 ghost use Rattle.std.specs.Prelude.{IfOk};
 ghost use Rattle.cd_core.specs.StateLaws.{CanStart};
-ghost use Rattle.cd_fork.specs.Running.{FewBegins, RanTo};
+ghost use Rattle.cd_core.specs.Running.{FewBegins, RanTo};
 ghost use Rattle.cd_app.specs.Parts.{IsPassed};
 ghost use Rattle.cd_app.specs.Parting.{CanRun, CanTakeBack, IsCarved, TookBack};
 ghost use Rattle.cd_app.specs.Running.{HasRun};

@@ -35,6 +35,9 @@ mod FitsTaken
 mod TakenOn
 mod TakesBack
 mod MembersBack
+mod Arrived
+mod Roots
+mod Outcomes
 mod FitsBefore
 mod Courses
 mod Ways

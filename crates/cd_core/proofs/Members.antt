@@ -40,7 +40,7 @@ each_parts {A} Q [] ys h = (tt, h)
 each_parts {A} Q (x ∷ xs) ys h = let rest : Each Q xs × Each Q ys = each_parts Q xs ys h.1 in ((h.0, rest.0), rest.1)
 
 -- what holds of items and, of a group, of what it names, holds of what a group among them names
-at_group : (P : List Item → Type 0) (Q : List NodeId → Type 0) → ((op : Op) (items : List Item) → P (Run op ∷ items) → P items)
+pub at_group : (P : List Item → Type 0) (Q : List NodeId → Type 0) → ((op : Op) (items : List Item) → P (Run op ∷ items) → P items)
     → ((named : List NodeId) (items : List Item) → P (Group named ∷ items) → Q named × P items)
     → (items : List Item) (k : ℕ) (ids : List NodeId) → slice_get items k ≡ Some (Group ids) → P items → Q ids
 at_group P Q over_run over_group [] k ids e h = absurd (cc)

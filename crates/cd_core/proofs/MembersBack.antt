@@ -91,23 +91,23 @@ ended_so (Lost spare cause over) ends = absurd ends
 ended_so (Ended ending) ends = (ending, refl)
 
 -- where no member escalated, this one did not, and none after it
-none_of : (one rest : Option (Cause × ℕ)) → with_more one rest ≡ None → (one ≡ None) × (rest ≡ None)
+pub none_of : (one rest : Option (Cause × ℕ)) → with_more one rest ≡ None → (one ≡ None) × (rest ≡ None)
 none_of None rest none = (refl, none)
 none_of (Some first) None none = absurd (cc)
 none_of (Some (cause, over)) (Some (other, more)) none = absurd (cc)
 
-none_lost : (lost : Option (Cause × ℕ)) → all_done lost ≡ true → lost ≡ None
+pub none_lost : (lost : Option (Cause × ℕ)) → all_done lost ≡ true → lost ≡ None
 none_lost None done = refl
 none_lost (Some first) done = absurd (cc)
 
-here_where_done : (plan : PlanModel) (d : Node) (s : StateModel) (ending : Ending) → IsHereAtEnd plan d s ending → escalation (Ended ending) ≡ None
+pub here_where_done : (plan : PlanModel) (d : Node) (s : StateModel) (ending : Ending) → IsHereAtEnd plan d s ending → escalation (Ended ending) ≡ None
     → IsHere d s.field
 here_where_done plan d s (Done leak) here none = here
 here_where_done plan d s (Escalated cause over) here none = absurd (cc)
 
 -- ---- one of them
 
-need_at : (plan : PlanModel) (id : NodeId) (d : Node) → node_of plan.tree.domains id ≡ Some d → need_of plan.tree.domains id ≡ node_need d
+pub need_at : (plan : PlanModel) (id : NodeId) (d : Node) → node_of plan.tree.domains id ≡ Some d → need_of plan.tree.domains id ≡ node_need d
 need_at plan id d is = ap (λ (o : Option Node). option_map_or node_need o 0) is
 
 -- a member that was sent when machine and pass were these, before the members of these numbers
@@ -148,7 +148,6 @@ one_can plan s sending id ids m p child commit is_plan field pass back done few 
       };
       joins = record {
         store = back.stays.store ∙ sym (ap (λ (x : PassModel). x.store) also);
-        most = back.stays.most ∙ sym (ap (λ (x : PassModel). x.most) also);
         nothing = fits.nothing.holds;
         few = omega (arith, few, need, room);
       };

@@ -28,7 +28,7 @@ no_link {id} None P top h = h
 no_link {id} (Some link) P top h = omega (arith, h.1, top)
 
 -- nothing lies above the root, so no reference leads out of it
-no_outer : MoreLaws → (plan : PlanModel) (top : NodeId) (domain : Domain) (reference : NodeId × ℕ) → IsPlan plan → top.0 ≡ 0
+pub no_outer : MoreLaws → (plan : PlanModel) (top : NodeId) (domain : Domain) (reference : NodeId × ℕ) → IsPlan plan → top.0 ≡ 0
     → slice_get plan.tree.domains top.0 ≡ Some domain → Contains (outer_references (view_in plan.tree top domain)) reference → ⊥
 no_outer l plan top domain reference is_plan first listed outer =
     no_link (link_of plan.tree.domains reference.0 reference.1) (λ up. Contains (path_of plan.tree.domains top) up) first

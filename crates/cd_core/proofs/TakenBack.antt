@@ -38,7 +38,6 @@ pub record ComesBack (plan : PlanModel) (commit : Bool) (s : StateModel) (d : No
   pub carved : (p : Place) → in_ranges child.field.carved p ≡ node_writes d p
   pub absorbs : CanAbsorb s.field child.field commit
   pub store : child.pass.store ≡ s.pass.store
-  pub most : child.pass.most ≡ s.pass.most
   pub nothing : HoldsNothing child.pass
   pub room : child.pass.room ≡ need_of plan.tree.domains child.node
   pub blamed : (cause : Cause) (over : ℕ) → escalation child.stage ≡ Some (cause, over) → IsOneOf plan (node_numbers d) cause
@@ -78,7 +77,6 @@ one_back plan s commit child c =
       carved = λ p. c.carved d c.fits.is p;
       absorbs = c.absorbs;
       store = c.joins.store;
-      most = c.joins.most;
       nothing = c.joins.nothing;
       room = end.nothing.room ∙ sym (need_is plan child.node d c.fits.is);
       blamed = λ cause over e. blames plan d c.ending cause over end.blamed (sym (ap escalation c.ended) ∙ e);
@@ -122,7 +120,6 @@ one_still plan commit s child first d other apart b c = record {
   absorbs = still_absorbs commit s.field child.field other.field
       (λ p e. b.carved p ∙ apart_writes first d p apart (sym (c.carved p) ∙ e)) c.absorbs;
   store = c.store;
-  most = c.most;
   nothing = c.nothing;
   room = c.room;
   blamed = c.blamed;
@@ -165,7 +162,7 @@ can_take_all plan commit (member first rest) (child ∷ children) s from back ap
     length-append (node_numbers first) (member_numbers rest) in
     let next : CanTakeNext s commit child = record {
       absorbs = b.absorbs;
-      joins = record { store = b.store; most = b.most; nothing = b.nothing; few = omega (arith, few) };
+      joins = record { store = b.store; nothing = b.nothing; few = omega (arith, few) };
       below = omega (arith, at, low);
       counts = omega (arith, at, low, within, both, b.counts);
     } in

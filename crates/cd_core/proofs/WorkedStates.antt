@@ -27,7 +27,8 @@ use Rattle.cd_core.specs.declared.state.Stage.{Stage}
 use Rattle.cd_core.specs.declared.state.Stage.TheVariants.{Ready, Waiting, Lost}
 use Rattle.cd_core.specs.declared.verdict.Verdict.TheVariants.{Waits}
 use Rattle.cd_core.specs.Advancing.{Judged, BeginsSo, after_loss, all_sent, judged_course, means_of, members_at, state_behind, state_sending}
-use Rattle.cd_core.specs.Asks.{Ask, member_ask, root_ask, task_of}
+use Rattle.cd_core.specs.declared.ask.Ask.{Ask}
+use Rattle.cd_core.specs.Asks.{member_ask, root_ask, task_of}
 use Rattle.cd_core.specs.StateModel.{StateModel}
 use Rattle.cd_core.specs.Steps.{root_state}
 use Rattle.cd_core.specs.Tasks.{Task}

@@ -20,18 +20,10 @@ use Rattle.cd_foot.specs.declared.footprints.Foot.{Foot}
 use Rattle.cd_tries.specs.declared.keep.Pieces.{Pieces}
 use Rattle.cd_tries.specs.declared.shelf.Level.{Level}
 use Rattle.cd_tries.specs.Keeping.{Known, piece_words, linked_by}
+use Rattle.cd_core.specs.declared.ask.Ask.{Ask}
 use Rattle.cd_core.specs.StateModel.{StateModel}
 use Rattle.cd_core.specs.Tasks.{Task}
 use Rattle.cd_core.specs.Stands.{Stands}
-
--- the domain; its words over the ranges of its reach, in order; the counts of its subtree; the words of the link of each of its
--- outer references, in order; and, for a domain other than the root, the number of a store
-pub record Ask : Type 0 where
-  pub node : NodeId
-  pub words : List ℕ
-  pub counts : List ℕ
-  pub links : List (List ℕ)
-  pub store : Option ℕ
 
 -- ---- from lists of words to words
 

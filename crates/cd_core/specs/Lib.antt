@@ -23,6 +23,8 @@ pub mod TakingBack
 pub mod Returning
 -- what an advance does not pass over
 pub mod Bounds
+-- what a run comes to
+pub mod Running
 -- what the tests of states run
 pub mod Sample
 pub mod GroupSample

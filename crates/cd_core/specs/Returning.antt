@@ -1,6 +1,6 @@
 -- What stays through the calls on a domain's state, how it goes on, and what members are when they come back: all that an
 -- engine needs to take a domain to its end.
-use Rattle.std.specs.Prelude.{◌≡◌, ℕ, suc, ◌+◌, ◌-◌, ◌*◌, ◌<◌, ◌≤◌, List, [], ◌∷◌, length, slice_get}
+use Rattle.std.specs.Prelude.{◌≡◌, ℕ, suc, ◌+◌, ◌-◌, ◌*◌, ◌<◌, ◌≤◌, List, [], ◌∷◌, length, slice_get, Some}
 use Rattle.std.specs.Option.{option_map_or}
 use Rattle.cd_base.specs.Words.{Words}
 use Rattle.cd_tree.specs.declared.document.Fault.{Fault}
@@ -10,10 +10,12 @@ use Rattle.cd_core.specs.declared.state.Stage.{Stage}
 use Rattle.cd_core.specs.declared.state.Stage.TheVariants.{Ready, Waiting, Resumed, Lost, Ended}
 use Rattle.cd_core.specs.StateModel.{StateModel}
 use Rattle.cd_core.specs.Asks.{EachAnswers}
+use Rattle.cd_core.specs.Advancing.{members_at}
 use Rattle.cd_core.specs.Fits.{Fits}
+use Rattle.cd_core.specs.Resuming.{nodes_of}
 use Rattle.cd_core.specs.Stands.{Stands}
 use Rattle.cd_core.specs.StateLaws.{TakesBack}
-use Rattle.cd_core.specs.Steps.{StepModel, sends, ends_done, ends_escalated, no_memory, Advances, IsEnded, IsWaiting}
+use Rattle.cd_core.specs.Steps.{StepModel, sends, ends_done, ends_escalated, no_memory, Advances, IsEnded, IsWaiting, waits_at}
 use Rattle.cd_core.specs.Tasks.{Task}
 
 -- ---- what stays
@@ -94,3 +96,15 @@ abbrev pub MembersAnswerStill : Type 0
 MembersAnswerStill =
     (plan : PlanModel) (faults : List Fault) (loaded : Words) (s : StateModel) (sent children : List StateModel)
     → EachCameBack plan sent children → EachAnswers plan faults loaded s sent → EachAnswers plan faults loaded s children
+
+-- each of these has ended
+abbrev pub AllEnded : List StateModel → Type 0
+AllEnded [] = Unit {0}
+AllEnded (child ∷ children) = IsEnded child.stage × AllEnded children
+
+-- members that have ended, each as the domain that waits for them asked, can be taken by it
+abbrev pub ArrivedCanBeTaken : Type 0
+ArrivedCanBeTaken =
+    (plan : PlanModel) (t : Task) (s : StateModel) (children : List StateModel) (domain : Domain) → IsPlan plan → Stands plan t s
+    → IsWaiting s.stage → slice_get plan.tree.domains s.node.0 ≡ Some domain → nodes_of children ≡ members_at domain (waits_at s.stage)
+    → EachAnswers plan t.faults t.loaded s children → AllEnded children → TakesBack plan s children

@@ -16,6 +16,7 @@
 
 mod advance;
 pub mod advancing_laws;
+mod ask;
 pub mod asking_laws;
 mod ending;
 mod laws_below;
@@ -31,6 +32,7 @@ mod tries;
 pub mod trying_laws;
 mod verdict;
 
+pub use ask::Ask;
 pub use start::start_root;
 pub use state::{Ending, NodeState, Outcome, Stage, Step};
 

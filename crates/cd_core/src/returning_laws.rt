@@ -1,7 +1,9 @@
-//! Laws of members that come back: they can be taken, and the domain that waited for them stands after its group.
-ghost use Rattle.cd_core.specs.Returning.{MembersAnswerStill, MembersCanComeBack};
+//! Laws of members that come back: they can be taken, and the domain that waited for them stands after its group; and of the root.
+ghost use Rattle.cd_core.specs.Returning.{ArrivedCanBeTaken, MembersAnswerStill, MembersCanComeBack};
+ghost use Rattle.cd_core.specs.Running.{EndedRootsRan, StartedRootsAnswer};
 ghost use Rattle.cd_core.specs.StateLaws.{ResumingStands};
 
+use crate::asking_laws::starting_stands;
 use crate::laws_below::laws_below;
 use crate::taking_laws::resuming_fits;
 use cd_cover::laws as plan_laws;
@@ -34,4 +36,23 @@ pub fn members_come_back()
     ensures answers { MembersAnswerStill }
 {
     tree_laws::the_nested_view_follows_the_list();
+}
+
+/// Members that have ended, each as the domain that waits for them asked, can be taken by it.
+pub fn arrived_members_can_be_taken()
+    ensures { ArrivedCanBeTaken }
+{
+    laws_below();
+    tree_laws::a_body_follows_its_items();
+}
+
+/// The root answers its ask as it is started; where it has ended, as its ask says, the program has run.
+pub fn roots_answer_and_have_run()
+    ensures start { StartedRootsAnswer }
+    ensures end { EndedRootsRan }
+{
+    laws_below();
+    starting_stands();
+    tree_laws::a_domain_sees_what_it_reads_alone();
+    tree_laws::each_domain_is_as_its_program();
 }

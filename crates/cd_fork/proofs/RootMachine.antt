@@ -25,7 +25,7 @@ use Rattle.cd_core.specs.declared.state.Outcome.TheVariants.{Committed, Exhauste
 use Rattle.cd_core.specs.Fits.{IsHere}
 use Rattle.cd_core.specs.Steps.{root_task}
 use Rattle.cd_core.specs.Tasks.{task_reading}
-use Rattle.cd_fork.specs.Running.{Ran, RanTo}
+use Rattle.cd_core.specs.Running.{Ran, RanTo}
 use Rattle.cd_fork.specs.Sample.{IsLegible, IsRootMachine, LiesInSample}
 
 -- ---- footprints

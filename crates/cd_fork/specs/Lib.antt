@@ -1,5 +1,3 @@
--- What a run comes to.
-pub mod Running
 -- How a domain is taken to its end, turn by turn.
 pub mod Onward
 -- What the test of groups runs.

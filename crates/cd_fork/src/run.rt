@@ -2,7 +2,7 @@
 ghost use Rattle.std.specs.Prelude.{◌≡◌, IfOk};
 ghost use Rattle.cd_core.specs.StateLaws.{CanStart};
 ghost use Rattle.cd_core.specs.Steps.{IsEnded, IsOutcome};
-ghost use Rattle.cd_fork.specs.Running.{FewBegins, RanTo};
+ghost use Rattle.cd_core.specs.Running.{FewBegins, RanTo};
 
 use crate::turns::{is_settled, run_domain};
 use cd_base::NoMemory;

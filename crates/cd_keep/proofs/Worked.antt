@@ -69,4 +69,4 @@ takes_back : (back.room ≡ 1) × (back.most ≡ 3) × (back.held ≡ 2) × (bac
 takes_back = (refl, refl, refl, refl, refl)
 
 can_take_back : CanJoin rest lost
-can_take_back = record { store = refl; most = refl; nothing = record { none = λ q. refl; held = refl }; few = lit≤ tt }
+can_take_back = record { store = refl; nothing = record { none = λ q. refl; held = refl }; few = lit≤ tt }

@@ -97,6 +97,5 @@ pub record HoldsNothing (p : PassModel) : Type 0 where
 -- when a pass may be taken back
 pub record CanJoin (p child : PassModel) : Type 0 where
   pub store : child.store ≡ p.store
-  pub most : child.most ≡ p.most
   pub nothing : HoldsNothing child
   pub few : p.held + p.room + child.room ≤ p.most

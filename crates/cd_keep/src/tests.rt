@@ -130,7 +130,6 @@ impl<P: Pass> Threefold<P> {
 
     fn join(&mut self, child: Threefold<P>)
         requires store { (P.model child.below).store ≡ (P.model self.old.below).store }
-        requires most { child.most ≡ self.old.most }
         requires nothing { HoldsNothing (P.model child.below) }
         requires few { self.old.held + self.old.room + child.room ≤ self.old.most }
         ensures { P.model self.new.below ≡ joined (P.model self.old.below) (P.model child.below) }

@@ -6,4 +6,4 @@ pub can_return : (p rest child : PassModel) → rest ≡ without p 1 → child �
 can_return p rest child e d room within =
     subst (λ (x : PassModel). CanJoin x child) (sym e)
     (subst (λ (x : PassModel). CanJoin (without p 1) x) (sym d)
-    (record { store = refl; most = refl; nothing = record { none = λ id. refl; held = refl }; few = omega arith }))
+    (record { store = refl; nothing = record { none = λ id. refl; held = refl }; few = omega arith }))

@@ -8,7 +8,7 @@ ghost use Rattle.cd_lease.specs.IdProps.{id_props};
 
 use crate::hints::Hints;
 use crate::passing::{give_back, part, share, take_back};
-use crate::rule::{Blocks, Place, Size};
+use crate::rule::{BLOCK_WORDS, Blocks, Place, Size};
 use crate::steps::{let_go, read};
 use crate::trying::{keep_in, serial_part};
 use atomic_table::Table;
@@ -58,7 +58,7 @@ impl LeasePass {
         ensures size { IfOk result (λ pass. size_of pass ≡ record { blocks = blocks; most = room }) }
     {
         let size = Size { blocks, most: room };
-        let words = vec![in alloc; 0; 65 * blocks as usize]?;
+        let words = vec![in alloc; 0; BLOCK_WORDS * blocks as usize]?;
         let (table, seat) = Table::of_words(alloc, words.as_slice(), &size)?;
         let table = Arc::new(alloc, table)?;
         let hints = Hints::all(alloc, blocks.min(room))?;

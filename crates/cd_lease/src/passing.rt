@@ -6,7 +6,9 @@ ghost use Rattle.cd_lease.specs.Views.{words_under};
 ghost use Rattle.cd_lease.specs.Seats.{IsAt, IsIdle};
 ghost use Rattle.cd_lease.specs.Steps.{sharing, missing, giving_back, newcomer, without, joining};
 
-use crate::rule::{Asked, Joining, Parting, Place, Portion, Returning, Sharing, Steps};
+use crate::rule::{
+    Asked, BLOCK_WORDS, Joining, Parting, Place, Portion, Returning, Sharing, Steps,
+};
 use cd_keep::KeepId;
 use std::marker::Brand;
 
@@ -22,7 +24,7 @@ fn share_as<B: Asked>(table: &Steps, seat: &mut Place, id: KeepId) -> u64
     ensures past { serial_of result ≢ id.serial → id.serial < serial_of result }
     ensures gone { serial_of result ≢ id.serial → seat.new.me ≡ (missing seat.old.me.0 id (serial_of result), seat.old.me.1) }
 {
-    table.fetch_add::<Sharing<B>>(seat, 65 * id.block as usize, 1)
+    table.fetch_add::<Sharing<B>>(seat, BLOCK_WORDS * id.block as usize, 1)
 }
 
 // Holds an id once more where the word found, which comes back, has its serial. Else the block is tried in vain, and has to
@@ -49,7 +51,7 @@ pub(crate) fn give_back(table: &Steps, seat: &mut Place, block: u32)
     ensures at { IsAt table.now.table_id seat.new.table_id table.now.key }
     ensures me { seat.new.me ≡ (giving_back seat.old.me.0, seat.old.me.1) }
 {
-    table.fetch_sub::<Returning>(seat, 65 * block as usize, 1);
+    table.fetch_sub::<Returning>(seat, BLOCK_WORDS * block as usize, 1);
 }
 
 fn part_as<B: Portion>(table: &Steps, seat: &mut Place, room: u32) -> Place

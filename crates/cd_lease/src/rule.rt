@@ -13,6 +13,12 @@ pub struct Size {
     pub most: u32,
 }
 
+// A block has a control word, and then 64 words of data.
+pub(crate) const BLOCK_WORDS: usize = 65;
+
+// A control word counts users up to this; from it on it counts serials.
+pub(crate) const SERIAL: u64 = 16_777_216;
+
 /// The rule of the blocks.
 pub struct Leases;
 

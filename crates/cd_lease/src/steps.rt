@@ -6,7 +6,9 @@ ghost use Rattle.cd_lease.specs.Views.{times, words_under};
 ghost use Rattle.cd_lease.specs.Seats.{IsAt, IsIdle};
 ghost use Rattle.cd_lease.specs.Steps.{met, look_of, taking, next_id, growing, holding, piece_of, leaving};
 
-use crate::rule::{Ending, Leaving, Looking, Place, Reading, Steps, Taking, Writing};
+use crate::rule::{
+    BLOCK_WORDS, Ending, Leaving, Looking, Place, Reading, SERIAL, Steps, Taking, Writing,
+};
 use cd_keep::KeepId;
 
 // The control word of a block.
@@ -16,7 +18,7 @@ pub(crate) fn look(table: &Steps, seat: &mut Place, block: u32) -> u64
     ensures at { IsAt table.now.table_id seat.new.table_id table.now.key }
     ensures me { seat.new.me ≡ (met seat.old.me.0 (look_of block result ∷ []), seat.old.me.1) }
 {
-    table.load::<Looking>(seat, 65 * block as usize)
+    table.load::<Looking>(seat, BLOCK_WORDS * block as usize)
 }
 
 // The control word of an open block with the next serial and one user.
@@ -25,7 +27,7 @@ fn taken(word: u64) -> u64
     ensures serial { serial_of result ≡ serial_of word + 1 }
     ensures user { users_of result ≡ 1 }
 {
-    word + 16_777_217
+    word + SERIAL + 1
 }
 
 // Takes a block, if its control word is still the one that was met: a filling begins. The word found comes back.
@@ -40,7 +42,7 @@ pub(crate) fn take_block(table: &Steps, seat: &mut Place, block: u32, old: u64) 
     ensures fresh { result ≡ old → words_under seat.old.me.0.known (next_id block old) ≡ None }
     ensures lost { result ≢ old → seat.new.me ≡ (met seat.old.me.0 (look_of block result ∷ []), seat.old.me.1) }
 {
-    table.compare_exchange::<Taking>(seat, 65 * block as usize, old, taken(old))
+    table.compare_exchange::<Taking>(seat, BLOCK_WORDS * block as usize, old, taken(old))
 }
 
 // Writes the i-th word of a piece, which is not its last, into the block that is filled with it.
@@ -53,7 +55,7 @@ pub(crate) fn write(table: &Steps, seat: &mut Place, id: KeepId, words: &[u64], 
     ensures at { IsAt table.now.table_id seat.new.table_id table.now.key }
     ensures me { seat.new.me ≡ (growing seat.old.me.0 (piece_of id (take (i + 1) words.now)), seat.old.me.1) }
 {
-    table.store::<Writing>(seat, 65 * id.block as usize + 1 + i, words[i])
+    table.store::<Writing>(seat, BLOCK_WORDS * id.block as usize + 1 + i, words[i])
 }
 
 // Writes the last word: the filling becomes a hold.
@@ -66,7 +68,7 @@ pub(crate) fn finish(table: &Steps, seat: &mut Place, id: KeepId, words: &[u64],
     ensures at { IsAt table.now.table_id seat.new.table_id table.now.key }
     ensures me { seat.new.me ≡ (holding seat.old.me.0 (piece_of id words.now), seat.old.me.1) }
 {
-    table.store::<Ending>(seat, 65 * id.block as usize + 1 + i, words[i])
+    table.store::<Ending>(seat, BLOCK_WORDS * id.block as usize + 1 + i, words[i])
 }
 
 // The i-th word of an id that is held.
@@ -79,7 +81,7 @@ pub(crate) fn read(table: &Steps, seat: &mut Place, id: KeepId, i: usize) -> u64
     ensures me { seat.new.me ≡ seat.old.me }
     ensures word { (piece : _) → words_under seat.old.me.0.known id ≡ Some piece → i < length piece → result ≡ slice_index piece i }
 {
-    table.load::<Reading>(seat, 65 * id.block as usize + 1 + i)
+    table.load::<Reading>(seat, BLOCK_WORDS * id.block as usize + 1 + i)
 }
 
 // Ends a hold. The control word found comes back.
@@ -90,10 +92,10 @@ pub(crate) fn leave(table: &Steps, seat: &mut Place, id: KeepId) -> u64
     ensures at { IsAt table.now.table_id seat.new.table_id table.now.key }
     ensures me { seat.new.me ≡ (leaving seat.old.me.0 id, seat.old.me.1) }
 {
-    table.fetch_sub::<Leaving>(seat, 65 * id.block as usize, 1)
+    table.fetch_sub::<Leaving>(seat, BLOCK_WORDS * id.block as usize, 1)
 }
 
-// Ends a hold, and says whether it was the last use of the block.
+// Ends a hold, and says whether it was the last use of the block; nothing rests on what it says but where a search begins.
 pub(crate) fn let_go(table: &Steps, seat: &mut Place, id: KeepId) -> bool
     requires at { IsAt table.now.table_id seat.old.table_id table.now.key }
     requires block { id.block < table.now.key.blocks }
@@ -102,7 +104,7 @@ pub(crate) fn let_go(table: &Steps, seat: &mut Place, id: KeepId) -> bool
     ensures me { seat.new.me ≡ (leaving seat.old.me.0 id, seat.old.me.1) }
 {
     let word = leave(table, seat, id);
-    word % 16_777_216 == 1
+    word % SERIAL == 1
 }
 
 // Fills a block that was taken: it is held, with these words.

@@ -1,18 +1,16 @@
 // The search for a free block: each block is met once, from one of them on and round.
-ghost use Rattle.std.specs.Prelude.{◌≡◌, ◌+◌, ◌/◌, ◌<◌, ◌≤◌, MatchBool, MatchOption};
+ghost use Rattle.std.specs.Prelude.{◌≡◌, ◌+◌, ◌/◌, ◌<◌, ◌≤◌, IfSome, MatchBool, MatchOption};
 ghost use Rattle.cd_lease.specs.Control.{IsOpen, IsShut};
 ghost use Rattle.cd_lease.specs.Seats.{IsAt, IsIdle};
 ghost use Rattle.cd_lease.specs.Steps.{id_of};
 ghost use Rattle.cd_keep.specs.PassModel.{IsPiece};
 ghost use Rattle.cd_lease.specs.Trying.{PassesBy, Finds, PassesAll, FindsAround, NotKept, KeptAs};
 
-use crate::rule::{Place, Steps};
+use crate::rule::{Place, SERIAL, Steps};
 use crate::steps::{fill, look, take_block};
 use cd_keep::KeepId;
 
-// One serial in a control word, above the count of holders.
-const SERIAL: u64 = 16_777_216;
-
+// Blocks whose serial is this are not taken again.
 const LAST_SERIAL: u64 = 1_099_511_627_775;
 
 // Whether a block may be taken from this control word.
@@ -57,7 +55,7 @@ fn try_between(table: &Steps, seat: &mut Place, low: u32, high: u32) -> Option<K
     requires room { 0 < seat.old.me.0.room }
     ensures at { IsAt table.now.table_id seat.new.table_id table.now.key }
     ensures outcome { MatchOption result (PassesBy low high seat.old.me seat.new.me) (λ id. Finds low seat.old.me seat.new.me id) }
-    ensures block { MatchOption result (low ≡ low) (λ id. id.block < high) }
+    ensures block { IfSome result (λ id. id.block < high) }
 {
     for block in low..high {
         if let Some(serial) = try_block(table, seat, block) {

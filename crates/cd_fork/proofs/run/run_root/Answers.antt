@@ -1,7 +1,8 @@
 use Rattle.std.proofs.Common.{◌≡◌}
 use Rattle.cd_core.specs.StateModel.{state_model}
 use Rattle.cd_core.specs.Steps.{IsEnded}
-use Rattle.cd_fork.proofs.Outcomes.{few_begins, has_run, ran_to, root_came_back, root_can_run}
+use Rattle.cd_core.proofs.Outcomes.{few_begins}
+use Rattle.cd_fork.proofs.Outcomes.{has_run, ran_to, root_came_back, root_can_run}
 use Rattle.cd_fork.proofs.run.run_root.Goals as goal
 
 pub run_domain-requires-after_bounds : goal.run_domain-requires-after_bounds

@@ -1,0 +1,6 @@
+//! The cells in which domains rest.
+#![tactic(auto)]
+
+mod view;
+
+pub use view::{Ask, Cell, Meeting, Met, View};
