@@ -1,6 +1,0 @@
--- In reading order: where a domain can be, lists of domains, the states that the rule is about, what views list, the rule.
-pub mod Places
-pub mod Listing
-pub mod Kinds
-pub mod Views
-pub mod Rule
