@@ -1,9 +1,8 @@
 //! The domains of a draft, with marks by which a new name is mostly seen to be free without a look at them.
 ghost use Rattle.std.specs.Prelude.{◌≡◌, ◌+◌, ◌<◌, ◌^◌, ◌&&◌, ◌++◌, ◌∷◌, [], length, slice_get, MatchOption, None, Some, IfOk, OnOk, bytes_eq};
-ghost use Rattle.std.specs.List.{list_any};
 ghost use Rattle.cd_parse.specs.Draft.{changed, with_item, with_entry, is_parent, has_child_named};
 ghost use Rattle.cd_parse.specs.Heads.{entries_of};
-ghost use Rattle.cd_parse.specs.Marks.{first_mark, next_mark, mark_behind, mark_of, IsMarked, AllMarked};
+ghost use Rattle.cd_parse.specs.Marks.{first_mark, next_mark, mark_of, AllMarked};
 ghost use Rattle.cd_parse.specs.Rooms.{HaveRoom};
 
 use cd_base::NoMemory;

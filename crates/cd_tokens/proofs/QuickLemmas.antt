@@ -1,5 +1,5 @@
 -- Expressions in one pass.
-use Rattle.std.proofs.Common.{◌≡◌, ℕ, zero, suc, ◌+◌, ◌*◌, ◌-◌, ◌<◌, ◌≤◌, ◌^◌, ◌==◌, ◌||◌, ◌&&◌, Bool, true, false, not, cond, nat_lt, List, [], ◌∷◌, ◌++◌, length, take, drop, get_or, Option, Some, None, inl, inr, refl, sym, ap, ◌∙◌, subst, arith, ltb-false}
+use Rattle.std.proofs.Common.{◌≡◌, ℕ, zero, suc, ◌+◌, ◌*◌, ◌-◌, ◌<◌, ◌≤◌, ◌^◌, ◌==◌, ◌&&◌, Bool, true, false, not, cond, nat_lt, List, [], ◌∷◌, ◌++◌, length, take, drop, get_or, Option, Some, None, inl, inr, refl, sym, ap, ◌∙◌, subst, arith, ltb-false}
 use Rattle.std.specs.Prelude.{Result, Ok, Err, IfSome}
 use Rattle.std.specs.List.{list_all, onto_first, position, position_or_len, slice_split}
 use Rattle.std.proofs.lemmas.Bool.{or_parts}
@@ -11,7 +11,7 @@ use Rattle.cd_tokens.specs.declared.wrong.Wrong.TheVariants.{Form, Overflow}
 use Rattle.cd_tokens.specs.declared.sums.Variable.{Variable}
 use Rattle.cd_tokens.specs.declared.sums.Reading.{Reading}
 use Rattle.cd_tokens.specs.Cuts.{is_operator, IsPlain, CutsOperatorAt}
-use Rattle.cd_tokens.specs.Quick.{HasDigits, sum_behind, IsFactor, IsTerm, GoesOn, IsLast}
+use Rattle.cd_tokens.specs.Quick.{HasDigits, sum_behind, GoesOn, IsLast}
 use Rattle.cd_tokens.specs.Sums.{is_digit, is_times, is_sign, in_64_bits, value_after, value_of, atom, times, term, joined, plus, product_on, sum_on, Part, put_byte, cut_at_signs, expression}
 use Rattle.cd_tokens.proofs.LineLemmas.{none_found}
 use Rattle.cd_tokens.proofs.CutLemmas.{rest_shorter}

@@ -1,5 +1,5 @@
 -- Tests that hold.
-use Rattle.std.proofs.Common.{◌≡◌, true, false, List, [], ◌∷◌, Result, Ok, Err, is_ok, refl, ap, sym}
+use Rattle.std.proofs.Common.{◌≡◌, true, List, [], ◌∷◌, Result, Ok, Err, is_ok, refl, ap}
 use Rattle.std.specs.List.{list_all}
 use Rattle.cd_tokens.specs.declared.wrong.Wrong.{Wrong}
 use Rattle.cd_tokens.specs.Wrongs.{all_hold, both, ◌>>=◌}

@@ -1,4 +1,4 @@
-use Rattle.std.proofs.Common.{◌≡◌, ◌∷◌, ◌++◌, [], ℕ, List, set, true, sym, ap, ◌∙◌, subst}
+use Rattle.std.proofs.Common.{◌≡◌, ℕ, List, set, true, sym, ap, ◌∙◌, subst}
 use Rattle.cd_tree.specs.declared.domain.Domain.{Domain}
 use Rattle.cd_parse.specs.Marks.{mark_of, AreMarked}
 use Rattle.cd_parse.proofs.MarkLemmas.{marked_more, marked_yet}
