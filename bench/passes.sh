@@ -69,11 +69,11 @@ for threads in 1 2 4; do
         if [ "$behind" = pointed ]; then
             later=$(cost "$behind" later "$threads")
         fi
-        awk -v behind="$behind" -v threads="$threads" -v split="$(cost "$behind" split "$threads")" -v later="$later" \
+        awk -v behind="$behind" -v threads="$threads" -v off="$(cost "$behind" split "$threads")" -v later="$later" \
             -v layer="$(cost "$behind" layer "$threads")" -v keep="$(cost "$behind" keep "$threads")" \
             'BEGIN {
                 if (later != "-") later = sprintf("%.1f", later / 1000)
-                printf "%-8s %7d %10.1f %14s %14.1f\n", behind, threads, split / 1000, later, (layer - keep) / 1000
+                printf "%-8s %7d %10.1f %14s %14.1f\n", behind, threads, off / 1000, later, (layer - keep) / 1000
             }'
     done
 done
