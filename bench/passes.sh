@@ -60,3 +60,20 @@ for threads in 1 2 4; do
             }'
     done
 done
+
+# A pass that is split off and taken back: where one block was kept before, where thousands were, and after each block kept.
+printf '\n%-8s %7s %10s %14s %14s\n' behind threads split+join 'after 10,000' 'after a keep'
+for threads in 1 2 4; do
+    for behind in leased pointed; do
+        later=-
+        if [ "$behind" = pointed ]; then
+            later=$(cost "$behind" later "$threads")
+        fi
+        awk -v behind="$behind" -v threads="$threads" -v off="$(cost "$behind" split "$threads")" -v later="$later" \
+            -v layer="$(cost "$behind" layer "$threads")" -v keep="$(cost "$behind" keep "$threads")" \
+            'BEGIN {
+                if (later != "-") later = sprintf("%.1f", later / 1000)
+                printf "%-8s %7d %10.1f %14s %14.1f\n", behind, threads, off / 1000, later, (layer - keep) / 1000
+            }'
+    done
+done

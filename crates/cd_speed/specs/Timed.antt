@@ -1,5 +1,5 @@
 -- The words that operations are timed on: regions of one length, of which the first is used by none.
-use Rattle.std.specs.Prelude.{◌≡◌, ℕ, ◌<◌, ◌≤◌, true, List}
+use Rattle.std.specs.Prelude.{◌≡◌, ℕ, ◌<◌, ◌≤◌, Bool, true, ◌||◌, List}
 use Rattle.cd_base.specs.declared.place.Place.{Place}
 use Rattle.cd_base.specs.declared.place.Range.{Range}
 use Rattle.cd_base.specs.Words.{in_ranges}
@@ -18,3 +18,13 @@ pub record IsInside (from : ℕ) (r : Range) : Type 0 where
 -- places of the six regions
 abbrev pub LieInRegions : List Range → Type 0
 LieInRegions ranges = (p : Place) → in_ranges ranges p ≡ true → (p.region < 6) × (p.index < 330002)
+
+-- places that a part reads or writes
+abbrev pub AreWithin : List Range → List Range → List Range → Type 0
+AreWithin changed reads writes = (p : Place) → in_ranges changed p ≡ true → (in_ranges reads p || in_ranges writes p) ≡ true
+
+-- words may have changed, but what is present, the script and the carved ranges stay
+pub record Stays (m later : FieldModel) : Type 0 where
+  pub script : later.script ≡ m.script
+  pub carved : later.carved ≡ m.carved
+  pub present : (p : Place) → IsPresent m p → IsPresent later p

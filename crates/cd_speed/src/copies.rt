@@ -61,8 +61,10 @@ fn on_two<R: Threads + Sync>(
 
 fn on_one(alloc: Global, block: &Block, task: Task) -> Result<u64, NoMemory> {
     match task.measure {
-        Measure::Keep => kept_in_turn(alloc, task.turns),
-        Measure::Share | Measure::Hold => shared_in_turn(block, task.turns),
+        Measure::Keep | Measure::Layer => kept_in_turn(alloc, task.turns),
+        Measure::Share | Measure::Hold | Measure::Split | Measure::SplitLater => {
+            shared_in_turn(block, task.turns)
+        }
         Measure::Fetch => Ok(fetched_in_turn(block, task.turns)),
     }
 }

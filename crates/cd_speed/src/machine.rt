@@ -1,11 +1,9 @@
 // Turns of an operation on the shipped machine, and on a part of it.
-ghost use Rattle.std.specs.Prelude.{◌≡◌, ◌<◌, ◌≤◌, ◌∷◌, [], length, All, IfOk, OnOk};
-ghost use Rattle.cd_base.specs.Words.{in_range, in_ranges};
-ghost use Rattle.cd_tree.specs.Operations.{op_reads, op_writes, FitsShape, IsFull, length_of};
-ghost use Rattle.cd_speed.specs.Timed.{HasRegions, IsInside, LieInRegions};
+ghost use Rattle.std.specs.Prelude.{◌∷◌, All, IfOk, OnOk};
+ghost use Rattle.cd_tree.specs.Operations.{op_reads, op_writes, FitsShape, IsFull};
+ghost use Rattle.cd_speed.specs.Timed.{HasRegions, IsInside};
 
 use crate::operations::{COUNT, LENGTH, is_inside, regions};
-use crate::parts::hand_over;
 use cd_base::{Items, NoMemory, Place, Places, Range};
 use cd_field::{Field, ScriptField};
 use cd_kernel::apply;
@@ -25,7 +23,8 @@ const TWO_WORDS: [Range; 2] = [
     },
 ];
 
-const FIVE_REGIONS: [Range; 5] = [
+/// The regions that operations use.
+pub(crate) const FIVE_REGIONS: [Range; 5] = [
     Range {
         region: 1,
         low: 0,
@@ -75,60 +74,17 @@ pub(crate) fn sum_of_part(alloc: Global, op: Op, turns: u32) -> Result<Option<u6
     Ok(Some(sum_on(&mut part, &op, turns)))
 }
 
-/// Carves a part out so many times, which reads five regions and writes so many words of the first of them, and takes it back.
-/// Gives the first word that it wrote.
-pub(crate) fn first_of_hands(alloc: Global, count: u32, turns: u32) -> Result<u64, NoMemory>
-    requires some { 0 < count }
-    requires within { count ≤ 330002 }
-{
-    let mut field = ScriptField::empty(alloc);
-    load(alloc, &mut field)?;
-    let range = Range {
-        region: 1,
-        low: 0,
-        high: count,
-    };
-    let reads = Places::of(alloc, &FIVE_REGIONS)?;
-    let writes = Places::of(alloc, &[range])?;
-    let words = vec![in alloc; 7; count as usize]?;
-    hand_turns(&mut field, &reads, &writes, range, &words, turns)?;
-    Ok(field.read(Place {
-        region: 1,
-        index: 0,
-    }))
-}
-
-fn hand_turns<F: Field>(
-    field: &mut F,
-    reads: &Places,
-    writes: &Places,
-    range: Range,
-    words: &[u64],
-    turns: u32,
-) -> Result<(), NoMemory>
-    requires loaded { HasRegions (F.model field.old) 0 }
-    requires reads { LieInRegions reads.now }
-    requires writes { (q : _) → in_ranges writes.now q ≡ in_range range q }
-    requires inside { IsInside 0 range }
-    requires long { length words.now ≡ length_of range }
-    ensures { OnOk result (HasRegions (F.model field.new) 0) }
-{
-    for _turn in 0..turns {
-        hand_over(field, reads, writes, range, words)?;
-    }
-    Ok(())
-}
-
-fn load<F: Field>(alloc: Global, field: &mut F) -> Result<(), NoMemory>
+/// Loads the regions.
+pub(crate) fn load<F: Field>(alloc: Global, field: &mut F) -> Result<(), NoMemory>
     ensures { OnOk result (HasRegions (F.model field.new) 0) }
 {
     field.load(&regions(alloc)?, &Items::new(alloc))?;
     Ok(())
 }
 
-// A part with the regions that operations use, and two words of the first region that do not touch: so no region is the part's
-// range of its own number.
-fn carved<F: Field>(alloc: Global, field: &mut F) -> Result<F, NoMemory>
+/// A part with the regions that operations use, and two words of the first region that do not touch: so no region is the
+/// part's range of its own number.
+pub(crate) fn carved<F: Field>(alloc: Global, field: &mut F) -> Result<F, NoMemory>
     requires { HasRegions (F.model field.old) 0 }
     ensures { IfOk result (λ part. HasRegions (F.model part) 1) }
 {

@@ -5,17 +5,29 @@
 //!
 //! `leased MEASURE TURNS THREADS` keeps, shares or fetches a block of 64 words by passes over one table of blocks, so many times on
 //! each of 1, 2 or 4 threads; `pointed` does it by passes over shared pointers, and `plain` with a plain copy behind one. MEASURE is `keep` or
-//! `share`, each of which gives up as often, `hold`, which shares only, or `fetch`.
+//! `share`, each of which gives up as often, `hold`, which shares only, or `fetch`; or `split`, which splits off a pass and takes it back,
+//! `later`, which does it in a pass that has kept 10,000 blocks, or `layer`, which does it after each block that is kept.
 //!
-//! It has no clock: `bench/operations.sh` and `bench/passes.sh` take the time of many turns and of few.
+//! `carve WRITTEN RANGES TURNS` carves out and takes back a part that has so many ranges of a region, where WRITTEN says what it
+//! writes of their words: `all`, `half` or `none`. `share changed TURNS` does it with a part that shares a region and changes one
+//! word of it, `share same TURNS` with one that changes none. `refill field TURNS` and `refill part TURNS` put a region's words back
+//! by one run. `tell field COUNT` tells so many events, `event field COUNT` also reads them back, and `tell list COUNT` and
+//! `event list COUNT` do it with a plain list.
+//!
+//! It has no clock: the scripts `operations.sh`, `passes.sh`, `parts.sh` and `events.sh` of `bench` take the time of many turns and
+//! of few.
 #![tactic(auto)]
 
+mod calls;
 mod copies;
+mod hands;
 mod machine;
 mod operations;
 mod parts;
 mod passes;
 mod plain;
+mod records;
+mod refills;
 mod shared;
 
 use cd_base::NoMemory;
@@ -74,6 +86,9 @@ fn sum_of_call<R: Threads + Wait + Sync>(
     if let Some(call) = shared::call_of(words) {
         return Ok(Some(shared::sum_of_call(rt, alloc, call)?));
     }
+    if let Some(call) = calls::call_of(words) {
+        return calls::sum_of_call(alloc, call);
+    }
     match call_of(words) {
         Some((way, name, turns)) => sum_of_turns(alloc, way, name, turns),
         None => Ok(None),
@@ -111,7 +126,7 @@ fn sum_of_turns(alloc: Global, way: Way, name: &str, turns: u32) -> Result<Optio
         operations::LENGTH
     };
     match way {
-        Way::Hand => Ok(Some(machine::first_of_hands(alloc, count, turns)?)),
+        Way::Hand => hands::first_of_hands(alloc, count, turns),
         Way::Copy => Ok(Some(plain::first_of_copies(alloc, count, turns)?)),
         Way::Field | Way::Part | Way::Slice => sum_of_operation(alloc, way, name, turns),
     }

@@ -101,7 +101,8 @@ pub(crate) fn is_inside(op: &Op) -> bool
     }
 }
 
-fn has_all(ranges: &[Range]) -> bool
+/// Whether ranges lie in the regions from the second on.
+pub(crate) fn has_all(ranges: &[Range]) -> bool
     ensures { IsTrue result → All (IsInside 1) ranges.now }
 {
     ranges.iter().all(|range| range.region >= 1 && range.region < 6 && range.high <= LENGTH)

@@ -2,7 +2,7 @@
 // pass of its own, and all were split off from one.
 ghost use Rattle.std.specs.Prelude.{◌≡◌, ◌+◌, ◌<◌, ◌≤◌, IsSome, OnOk, length};
 ghost use Rattle.std.specs.Thread.{IsSend, IsSync};
-ghost use Rattle.cd_keep.specs.PassModel.{words_of};
+ghost use Rattle.cd_keep.specs.PassModel.{child_of, joined, without, words_of};
 ghost use Rattle.cd_speed.specs.Turned.{CanTurn};
 
 use cd_base::NoMemory;
@@ -33,7 +33,16 @@ pub(crate) enum Measure {
     Hold,
     /// Fetches a block's words.
     Fetch,
+    /// Splits off a pass and takes it back.
+    Split,
+    /// The same where thousands of blocks were kept before.
+    SplitLater,
+    /// Keeps a block, splits off a pass and takes it back, and gives the block up.
+    Layer,
 }
+
+// How many blocks are kept before a pass is split off where it is to be late.
+const KEPT_BEFORE: u32 = 10_000;
 
 /// What each thread does.
 #[derive(Debug, Clone, Copy)]
@@ -106,7 +115,9 @@ fn on_one<R: Wait, P: Pass>(rt: &R, mut pass: P, id: KeepId, task: Task) -> Resu
     requires { CanTurn (P.model pass) id 16000 }
 {
     match task.measure {
-        Measure::Keep => kept_in_turn(rt, &mut pass, task.turns),
+        Measure::Keep | Measure::Layer => kept_in_turn(rt, &mut pass, task),
+        Measure::Split => split_in_turn(&mut pass, task.turns),
+        Measure::SplitLater => split_later(rt, &mut pass, task.turns),
         Measure::Share => Ok(shared_in_turn(&mut pass, id, task.turns)),
         Measure::Hold => Ok(held_in_turn(&mut pass, id)),
         Measure::Fetch => Ok(fetched_in_turn(&mut pass, id, task.turns)),
@@ -114,16 +125,71 @@ fn on_one<R: Wait, P: Pass>(rt: &R, mut pass: P, id: KeepId, task: Task) -> Resu
 }
 
 // So many blocks, each some after another in a pass of its own, which is let go with what it has seen.
-fn kept_in_turn<R: Wait, P: Pass>(rt: &R, pass: &mut P, turns: u32) -> Result<u64, NoMemory>
+fn kept_in_turn<R: Wait, P: Pass>(rt: &R, pass: &mut P, task: Task) -> Result<u64, NoMemory>
     requires { 16000 ≤ (P.model pass.old).room }
 {
     let mut sum = 0u64;
-    let count = (turns / TURNS_OF_ONE).min(ROOM_OF_ONE);
+    let count = (task.turns / TURNS_OF_ONE).min(ROOM_OF_ONE);
     for _turn in 0..count {
         let child = pass.split(1)?;
-        sum = sum.wrapping_add(kept_by(rt, child)?);
+        sum = sum.wrapping_add(kept_by_one(rt, child, task)?);
     }
     Ok(sum)
+}
+
+fn kept_by_one<R: Wait, P: Pass>(rt: &R, pass: P, task: Task) -> Result<u64, NoMemory>
+    requires { (P.model pass).room ≡ 1 }
+{
+    match task.measure {
+        Measure::Layer => layered_by(rt, pass),
+        _ => kept_by(rt, pass),
+    }
+}
+
+fn layered_by<R: Wait, P: Pass>(rt: &R, mut pass: P) -> Result<u64, NoMemory>
+    requires { (P.model pass).room ≡ 1 }
+{
+    let mut sum = 0u64;
+    for _turn in 0..TURNS_OF_ONE {
+        sum = sum.wrapping_add(keep_split_and_give_up(rt, &mut pass)?);
+    }
+    Ok(sum)
+}
+
+fn keep_split_and_give_up<R: Wait, P: Pass>(rt: &R, pass: &mut P) -> Result<u64, NoMemory>
+    requires { (P.model pass.old).room ≡ 1 }
+    ensures { OnOk result ((P.model pass.new).room ≡ 1) }
+{
+    let id = pass.keep(rt, WORDS.as_slice())?;
+    split_and_join(pass)?;
+    pass.give_up(id);
+    Ok(7)
+}
+
+fn split_in_turn<P: Pass>(pass: &mut P, turns: u32) -> Result<u64, NoMemory> {
+    let mut sum = 0u64;
+    for _turn in 0..turns {
+        split_and_join(pass)?;
+        sum = sum.wrapping_add(7);
+    }
+    Ok(sum)
+}
+
+fn split_and_join<P: Pass>(pass: &mut P) -> Result<(), NoMemory>
+    ensures { OnOk result (P.model pass.new ≡ joined (without (P.model pass.old) 0) (child_of (P.model pass.old) 0)) }
+{
+    let child = pass.split(0)?;
+    pass.join(child);
+    Ok(())
+}
+
+fn split_later<R: Wait, P: Pass>(rt: &R, pass: &mut P, turns: u32) -> Result<u64, NoMemory>
+    requires { 16000 ≤ (P.model pass.old).room }
+{
+    for _turn in 0..KEPT_BEFORE {
+        let _id: KeepId = pass.keep(rt, WORDS.as_slice())?;
+    }
+    split_in_turn(pass, turns)
 }
 
 fn kept_by<R: Wait, P: Pass>(rt: &R, mut pass: P) -> Result<u64, NoMemory>

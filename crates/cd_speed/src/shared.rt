@@ -64,6 +64,12 @@ fn measure_of(word: &str) -> Option<Measure> {
         Some(Measure::Hold)
     } else if word == "fetch" {
         Some(Measure::Fetch)
+    } else if word == "split" {
+        Some(Measure::Split)
+    } else if word == "later" {
+        Some(Measure::SplitLater)
+    } else if word == "layer" {
+        Some(Measure::Layer)
     } else {
         None
     }
