@@ -1,9 +1,9 @@
 -- Lemmas on the lines of a record, and on a text that is written piece by piece.
 use Rattle.std.proofs.Common.{◌≡◌, ℕ, zero, suc, ◌+◌, ◌-◌, ◌<◌, ◌≤◌, Bool, true, false, inl, inr, List, [], ◌∷◌, ◌++◌, Option, None, Some, is_some, Ok, Err, length, take, drop, slice_get, if◌then◌else◌, codes, refl, sym, ap, ◌∙◌, subst, arith, append_assoc, length-append, length-drop}
 use Rattle.std.proofs.Math.Seq.{take-append-add}
-use Rattle.std.proofs.lemmas.List.{append-nil, drop_more, drop_all, drop-drop, take-append-drop, take-append-le}
+use Rattle.std.proofs.lemmas.List.{append-nil, drop_all, drop-drop, take-append-drop, take-append-le}
 use Rattle.std.proofs.lemmas.Grind.{flat_map-append}
-use Rattle.std.proofs.lemmas.Option.{slice_get_within, get_or_from_slice_get, slice_get_past, none-some}
+use Rattle.std.proofs.lemmas.Option.{slice_get_past, none-some}
 use Rattle.std.proofs.KnownBytes.{Appends-trans}
 use Rattle.std.specs.Io.KnownBytes.{Appends}
 use Rattle.std.specs.Fmt.{decimal}
@@ -22,7 +22,7 @@ use Rattle.cd_tree.specs.declared.event.Event.TheVariants.{Fell, Lapsed}
 use Rattle.cd_tokens.specs.Written.{place_token}
 use Rattle.cd_report.specs.Texts.{line}
 use Rattle.cd_report.specs.Records.{event_text, event_line, events_text}
-use Rattle.cd_report.proofs.TextLemmas.{next_piece, nine_pieces, eleven_pieces}
+use Rattle.cd_report.proofs.TextLemmas.{nine_pieces, eleven_pieces}
 
 -- the lines of the events, made of their pieces
 pub fell_line : (kinds : List KindName) (regions : List Region) (event : Event) (node : NodeId) (entry : ℕ) (p : Place) (wanted found : ℕ) (place made : List ℕ)
@@ -44,31 +44,20 @@ lapsed_line kinds regions event node entry seen found made is e =
     ∙ nine_pieces (codes "lapsed ") (decimal node.0) (codes " ") (decimal entry) (codes " seen ") (decimal seen) (codes " found ") (decimal found) (codes "\n")
     ∙ ap (event_line kinds regions) (sym is)
 
-take_none : (n : ℕ) → take {A = Event} n [] ≡ []
-take_none zero = refl
-take_none (suc n) = refl
+-- the line of an event behind a text
+pub line_behind : (kinds : List KindName) (regions : List Region) (event told : Event) (text later shown made : List ℕ) → later ≡ text ++ shown
+    → shown ≡ made → made ≡ event_line kinds regions told → event ≡ told → later ≡ text ++ event_line kinds regions event
+line_behind kinds regions event told text later shown made pushed same is e =
+    pushed ∙ ap (λ (t : List ℕ). text ++ t) (same ∙ is ∙ ap (event_line kinds regions) (sym e))
 
 get_past : (events : List Event) (k : ℕ) → slice_get events k ≡ None → length events ≤ k
 get_past [] k e = omega arith
 get_past (event ∷ events) zero e = absurd (none-some event (sym e))
 get_past (event ∷ events) (suc k) e = omega (arith, get_past events k e)
 
--- the events from one on, up to below another
-pub events_next : (events : List Event) (k to : ℕ) (event : Event) → slice_get events k ≡ Some event → k < to
-    → take (to - k) (drop k events) ≡ event ∷ take (to - (k + 1)) (drop (k + 1) events)
-events_next events k to event e h =
-    let n : to - k ≡ suc (to - (k + 1)) = omega arith in
-    let here : drop k events ≡ event ∷ drop (k + 1) events =
-    drop_more events k event (slice_get_within events k event e)
-    ∙ ap (λ (it : Event). it ∷ drop (k + 1) events) (get_or_from_slice_get events k event event e) in
-    ap (λ (m : ℕ). take m (drop k events)) n ∙ ap (take (suc (to - (k + 1)))) here
-
 -- where there is no event with a number, there is none from it on
 pub events_end : (events : List Event) (k : ℕ) → None ≡ slice_get events k → drop k events ≡ []
 events_end events k e = drop_all k events (get_past events k (sym e))
-
-pub events_past : (events : List Event) (k n : ℕ) → None ≡ slice_get events k → take n (drop k events) ≡ []
-events_past events k n e = ap (take n) (events_end events k e) ∙ take_none n
 
 none_there : (o : Option Event) → false ≡ is_some o → None ≡ o
 none_there None e = refl
@@ -94,22 +83,6 @@ events_split kinds regions events k n =
     ap (events_text kinds regions) (sym (take-append-drop n (drop k events)))
     ∙ flat_map-append (event_line kinds regions) (take n (drop k events)) (drop n (drop k events))
     ∙ ap (λ (rest : List Event). events_text kinds regions (take n (drop k events)) ++ events_text kinds regions rest) (drop-drop n k events)
-
--- a text with the line of one event more
-pub event_written : (kinds : List KindName) (regions : List Region) (events : List Event) (k to : ℕ) (event : Event) (text next piece shown whole : List ℕ)
-    → Some event ≡ slice_get events k → k < to → text ++ events_text kinds regions (take (to - k) (drop k events)) ≡ whole
-    → piece ≡ event_line kinds regions event → shown ≡ piece → next ≡ text ++ shown
-    → next ++ events_text kinds regions (take (to - (k + 1)) (drop (k + 1) events)) ≡ whole
-event_written kinds regions events k to event text next piece shown whole e h i p d n =
-    next_piece whole text next (event_line kinds regions event) (events_text kinds regions (take (to - (k + 1)) (drop (k + 1) events)))
-    (events_text kinds regions (take (to - k) (drop k events))) i (n ∙ ap (λ (t : List ℕ). text ++ t) (d ∙ p))
-    (ap (events_text kinds regions) (events_next events k to event (sym e) h))
-
--- a text to which all events were written
-pub events_written : (kinds : List KindName) (regions : List Region) (events : List Event) (k n : ℕ) (text whole : List ℕ)
-    → take n (drop k events) ≡ [] → text ++ events_text kinds regions (take n (drop k events)) ≡ whole → text ≡ whole
-events_written kinds regions events k n text whole e i =
-    sym (append-nil text) ∙ ap (λ (rest : List Event). text ++ events_text kinds regions rest) (sym e) ∙ i
 
 -- a line has at least its line feed
 line_some : (text : List ℕ) → 0 < length (line text)

@@ -4,7 +4,7 @@ ghost use Rattle.cd_tree.specs.Limits.{kinds_limit};
 ghost use Rattle.cd_base.specs.Ends.{WriteAll};
 ghost use Rattle.cd_report.specs.Records.{events_text, record_text};
 
-use crate::events::event_line;
+use crate::events::add_event;
 use cd_base::{NoMemory, Sink, WriteStop, write_all};
 use cd_field::Field;
 use cd_tree::{Event, KindName, Region};
@@ -70,7 +70,7 @@ fn lines_of(
 {
     let mut text = String::new(alloc);
     for event in events {
-        text.push_str(&event_line(alloc, kinds, regions, *event)?)?;
+        add_event(alloc, kinds, regions, *event, &mut text)?;
     }
     Ok(text)
 }

@@ -1,7 +1,7 @@
 // What is printed, by example.
 ghost use Rattle.std.specs.Prelude.{◌<◌, ◌^◌, length, IsTrue};
 
-use crate::events::event_line;
+use crate::events::add_event;
 use crate::{write_read_fault, write_reading, write_refusal, write_run, write_usage};
 use cd_base::{Items, MemorySink, Pattern, Place, Text, WriteStop};
 use cd_field::{Field, ScriptField};
@@ -95,7 +95,8 @@ fn tells(alloc: Global, event: Event, line: &str) -> Result<(), Fail> {
         pattern: Pattern::Const(0),
     };
     let regions = vec![in alloc; region]?;
-    let text = event_line(alloc, &[], regions.as_slice(), event)?;
+    let mut text = String::new(alloc);
+    add_event(alloc, &[], regions.as_slice(), event, &mut text)?;
     is_text(text.as_bytes(), line)
 }
 
