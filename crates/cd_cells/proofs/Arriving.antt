@@ -1,5 +1,5 @@
 -- A domain arrives, not as the last of its group: the root, or a member.
-use Rattle.std.proofs.Common.{◌≡◌, ◌≢◌, ℕ, zero, suc, ◌+◌, ◌-◌, ◌*◌, ◌%◌, ◌^◌, ◌<◌, ◌≤◌, List, [], ◌∷◌, length, get_or, set, Option, None, Some, sym, refl, ap, subst, ◌∙◌, arith, ⊎_elim, length-set, get_or-set_same, get_or-set_other}
+use Rattle.std.proofs.Common.{◌≡◌, ◌≢◌, ℕ, ◌+◌, ◌-◌, ◌*◌, ◌%◌, ◌^◌, ◌<◌, List, [], ◌∷◌, length, get_or, set, Option, Some, sym, refl, ap, subst, ◌∙◌, arith, ⊎_elim, length-set, get_or-set_same, get_or-set_other}
 use Rattle.std.proofs.lemmas.Bool.{cases_eq}
 use mathlib.Core.Option.{Option as Maybe, some, none}
 use lib.ListN.{get_elem?}
@@ -10,15 +10,15 @@ use Rattle.cd_cells.specs.declared.view.Ask.{Ask}
 use Rattle.cd_cells.specs.declared.view.Meeting.{Meeting}
 use Rattle.cd_cells.specs.declared.view.View.{View}
 use Rattle.cd_cells.specs.declared.view.Cell.{Cell}
-use Rattle.cd_cells.specs.Places.{Where, Sort, phase, mark, ahead, rests, ends, side, seal, over, content}
+use Rattle.cd_cells.specs.Places.{Where, Sort, phase, mark, ahead, rests, ends, side, seal, over}
 use Rattle.cd_cells.specs.Places.Where.{out, waiting, full, arrived}
 use Rattle.cd_cells.specs.Places.Sort.{holds, posts, claims, arrives}
 use Rattle.cd_cells.specs.Listing.{often, weigh, nodes, one_out, find, ask_out}
-use Rattle.cd_cells.specs.Kinds.{Kind, IsMember}
+use Rattle.cd_cells.specs.Kinds.{Kind}
 use Rattle.cd_cells.specs.Views.{name_of, tally}
 use Rattle.cd_cells.specs.Rule.{phase_at, count_at, root_at, stop_of, Counts, Groups, Rooted, Fine, Ticketed, Ordered}
-use Rattle.cd_cells.specs.Steps.{Sat, homing, meeting, arriving, ArrivesAtRoot}
-use Rattle.cd_cells.proofs.Listed.{often_here, often_else, often_one_less, often_out_else, nodes_out, knows_out, weigh_same, weigh_less}
+use Rattle.cd_cells.specs.Steps.{Sat, meeting, arriving, ArrivesAtRoot}
+use Rattle.cd_cells.proofs.Listed.{often_here, often_else, often_one_less, often_out_else, nodes_out, knows_out, weigh_less}
 use Rattle.cd_cells.proofs.Sums.{put, put_here, put_else, put_each, some_or_none}
 use Rattle.cd_cells.proofs.Placed.{in_out, in_waiting}
 use Rattle.cd_cells.proofs.Framing.{within_mark, counts_kept, phases_stay, groups_at_root, homes_moved, fine_set}
@@ -70,7 +70,7 @@ counts_timed n place times views r id v at w d p q is off on =
 -- ---- the step, for the root and for a member
 
 module _ {K T : Type 0} (k : Kind T) (key : K) (s : State (Option (Cell K T)) (View K)) (r : Ordered k key s) (id : ℕ) (v : View K)
-  (at : get_elem? s.views id ≡ some v) (d : ℕ) (h : d < k.count) (is : r.place d ≡ out) where
+    (at : get_elem? s.views id ≡ some v) (d : ℕ) (h : d < k.count) (is : r.place d ≡ out) where
   abbrev place' : ℕ → Where
   place' = put r.place d arrived
 
@@ -182,6 +182,7 @@ module _ {K T : Type 0} (k : Kind T) (key : K) (s : State (Option (Cell K T)) (V
       where
         here : get_or (set s.words (count_at (k.up d)) (n - 1)) (count_at (k.up d)) 0 ≡ n - 1
         here = get_or-set_same s.words (2 * k.up d + 2) (n - 1) 0 (let w : length s.words ≡ 2 * k.count + 2 = r.words in let b = parent_below in omega arith)
+
         there : (p : ℕ) → p ≢ k.up d → get_or (set s.words (count_at (k.up d)) (n - 1)) (count_at p) 0 ≡ get_or s.words (count_at p) 0
         there p ne = get_or-set_other s.words (2 * k.up d + 2) (2 * p + 2) (n - 1) 0 (λ q. ne (omega arith))
 
@@ -201,7 +202,7 @@ module _ {K T : Type 0} (k : Kind T) (key : K) (s : State (Option (Cell K T)) (V
         held c stands ticket cs e
 
 module _ {K T : Type 0} (k : Kind T) (key : K) (s : State (Option (Cell K T)) (View K)) (r : Ordered k key s) (id : ℕ) (v : View K)
-  (at : get_elem? s.views id ≡ some v) (is : r.place 0 ≡ out) where
+    (at : get_elem? s.views id ≡ some v) (is : r.place 0 ≡ out) where
   pub root_word : get_or s.words (root_at k.count) 0 ≡ 1
   root_word = r.root.word ∙ ap seal is
 

@@ -1,18 +1,18 @@
 -- A table that is opened keeps the rule: the root may be posted, all else is idle.
-use Rattle.std.proofs.Common.{◌≡◌, ◌≢◌, ℕ, zero, suc, ◌+◌, ◌*◌, ◌<◌, ◌≤◌, ◌==◌, inl, List, [], ◌∷◌, map, length, replicate, get_or, set, Option, None, Some, sym, refl, ap, subst, ◌∙◌, arith, length-set, get_or-set_same, get_or-set_other}
+use Rattle.std.proofs.Common.{◌≡◌, ◌≢◌, ℕ, zero, suc, ◌+◌, ◌*◌, ◌<◌, inl, List, [], ◌∷◌, map, length, replicate, get_or, set, Option, None, Some, sym, refl, ap, subst, ◌∙◌, arith, length-set, get_or-set_same, get_or-set_other}
 use mathlib.Core.Option.{Option as Maybe, some, some-injective, some-ne-none}
 use lib.ListN.{get_elem?}
-use Rattle.atomic_table.specs.Table.{State, opening}
+use Rattle.atomic_table.specs.Table.{opening}
 use Rattle.cd_cells.specs.declared.view.Ask.{Ask}
 use Rattle.cd_cells.specs.declared.view.View.{View}
 use Rattle.cd_cells.specs.declared.view.Cell.{Cell}
 use Rattle.cd_cells.specs.Places.{Where, Sort, phase, mark, rests, side, content}
-use Rattle.cd_cells.specs.Places.Where.{idle, due, waiting}
+use Rattle.cd_cells.specs.Places.Where.{idle, due}
 use Rattle.cd_cells.specs.Places.Sort.{rights, names}
 use Rattle.cd_cells.specs.Listing.{often, no_ask}
 use Rattle.cd_cells.specs.Kinds.{Kind, Lawful}
 use Rattle.cd_cells.specs.Views.{tally, first_view}
-use Rattle.cd_cells.specs.Rule.{phase_at, root_at, Groups, Fine, Has, Homes, Ordered}
+use Rattle.cd_cells.specs.Rule.{Fine, Has, Ordered}
 use Rattle.cd_cells.proofs.Listed.{one_at, one_off}
 
 abbrev place_first : ℕ → Where
@@ -38,14 +38,14 @@ zeros_at zero i = refl
 zeros_at (suc m) zero = refl
 zeros_at (suc m) (suc i) = zeros_at m i
 
-empties_long : {A : Type 0} (n : ℕ) → length (map {A = Option A} {B = Maybe (Option A)} some (empties n)) ≡ n
-empties_long zero = refl
-empties_long {A} (suc n) = ap suc (empties_long {A} n)
+empties_long : (A : Type 0) (n : ℕ) → length (map {A = Option A} {B = Maybe (Option A)} some (empties {A = A} n)) ≡ n
+empties_long A zero = refl
+empties_long A (suc n) = ap suc (empties_long A n)
 
-empties_at : {A : Type 0} (n d : ℕ) → d < n → get_elem? (map {A = Option A} {B = Maybe (Option A)} some (empties n)) d ≡ some (some None)
-empties_at zero d h = absurd (omega arith)
-empties_at (suc n) zero h = refl
-empties_at {A} (suc n) (suc d) h = empties_at {A} n d (omega arith)
+empties_at : (A : Type 0) (n d : ℕ) → d < n → get_elem? (map {A = Option A} {B = Maybe (Option A)} some (empties {A = A} n)) d ≡ some (some None)
+empties_at A zero d h = absurd (omega arith)
+empties_at A (suc n) zero h = refl
+empties_at A (suc n) (suc d) h = empties_at A n d (omega arith)
 
 phase_first : (d : ℕ) → phase (place_first d) ≡ 0
 phase_first zero = refl
@@ -92,8 +92,8 @@ module _ {K T : Type 0} (k : Kind T) (key : K) (lawful : Lawful k) where
     word_zero i ne = ap (λ (ws : List ℕ). get_or ws i 0) is ∙ (get_or-set_other (zeros (2 * k.count + 2)) (2 * k.count + 1) i 1 0 ne ∙ zeros_at (2 * k.count + 2) i)
 
     first_homes : (d : ℕ) → d < k.count → Has k key [] (want_first k.root) d [] (content (place_first d)) (get_elem? (map some (empties {A = Cell K T} k.count)) d) × ((want_first k.root d).node.0 ≡ d)
-    first_homes zero h = (empties_at {A = Cell K T} k.count zero h, lawful.root)
-    first_homes (suc d) h = (empties_at {A = Cell K T} k.count (suc d) h, refl)
+    first_homes zero h = (empties_at (Cell K T) k.count zero h, lawful.root)
+    first_homes (suc d) h = (empties_at (Cell K T) k.count (suc d) h, refl)
 
     pub opens : Ordered k key (opening words (empties {A = Cell K T} k.count) first)
     opens = record {
@@ -104,7 +104,7 @@ module _ {K T : Type 0} (k : Kind T) (key : K) (lawful : Lawful k) where
       want = want_first k.root;
       table = [];
       words = ap length is ∙ (length-set (zeros (2 * k.count + 2)) (2 * k.count + 1) 1 ∙ zeros_long (2 * k.count + 2));
-      slots = empties_long {A = Cell K T} k.count;
+      slots = empties_long (Cell K T) k.count;
       counts = λ q d l. first_counts q d;
       phases = λ d l. word_zero (2 * d + 1) (λ e. absurd (omega arith)) ∙ sym (phase_first d);
       groups = record {
@@ -127,3 +127,10 @@ module _ {K T : Type 0} (k : Kind T) (key : K) (lawful : Lawful k) where
       stop = word_zero 0 (λ e. absurd (omega arith));
       fresh = refl;
     }
+
+-- with the number of domains by its number
+pub opens_at : {K T : Type 0} (k : Kind T) (key : K) → Lawful k → (count : ℕ) → count ≡ k.count → (words : List ℕ) → words ≡ set (zeros (2 * count + 2)) (2 * count + 1) 1
+    → Ordered k key (opening words (empties {A = Cell K T} count) (first_view (Some key) k.root))
+opens_at {K} {T} k key lawful count e words is =
+    subst (λ (n : ℕ). words ≡ set (zeros (2 * n + 2)) (2 * n + 1) 1 → Ordered k key (opening words (empties {A = Cell K T} n) (first_view (Some key) k.root))) (sym e)
+    (opens k key lawful words) is

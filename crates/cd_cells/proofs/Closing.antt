@@ -1,27 +1,27 @@
 -- The root is closed; a pass stops and looks; the first pass learns which table it is at.
-use Rattle.std.proofs.Common.{◌≡◌, ◌≢◌, ℕ, zero, suc, ◌+◌, ◌*◌, ◌%◌, ◌<◌, ◌≤◌, ◌==◌, ◌⊎◌, inl, inr, List, [], ◌∷◌, length, get_or, set, Option, None, Some, bit_or, sym, refl, ap, subst, ◌∙◌, arith, ⊎_elim, eq-eqb, ne_eqb, length-set, get_or-set_same, get_or-set_other}
+use Rattle.std.proofs.Common.{◌≡◌, ◌≢◌, ℕ, zero, suc, ◌+◌, ◌*◌, ◌%◌, ◌<◌, ◌≤◌, ◌==◌, inl, inr, List, [], ◌∷◌, length, get_or, set, Option, Some, bit_or, sym, refl, ap, subst, ◌∙◌, arith, ⊎_elim, eq-eqb, ne_eqb, length-set, get_or-set_same, get_or-set_other}
 use Rattle.std.proofs.lemmas.Bool.{cases_eq}
-use mathlib.Core.Option.{Option as Maybe, some, none}
+use mathlib.Core.Option.{some, none}
 use lib.ListN.{get_elem?}
 use prog.Atomic.{either}
-use Rattle.atomic_table.specs.Table.{State, rest, step, stepped, keeps, takes as takes_slot, Allows}
+use Rattle.atomic_table.specs.Table.{State, step, stepped, keeps, takes as takes_slot, Allows}
 use Rattle.atomic_table.specs.Seated.{TableId}
 use Rattle.atomic_table.proofs.Lists.{set_here, set_else}
 use Rattle.cd_cells.specs.declared.view.Ask.{Ask}
 use Rattle.cd_cells.specs.declared.view.Meeting.{Meeting}
 use Rattle.cd_cells.specs.declared.view.View.{View}
 use Rattle.cd_cells.specs.declared.view.Cell.{Cell}
-use Rattle.cd_cells.specs.Places.{Where, Sort, Content, phase, mark, rests, ends, seal, over, content}
+use Rattle.cd_cells.specs.Places.{Where, Sort, Content, phase, mark, rests, ends, over, content}
 use Rattle.cd_cells.specs.Places.Where.{arrived, gone}
 use Rattle.cd_cells.specs.Places.Sort.{shuts}
 use Rattle.cd_cells.specs.Places.Content.{nothing, away, fresh, waits, ended}
-use Rattle.cd_cells.specs.Listing.{often, total}
+use Rattle.cd_cells.specs.Listing.{total}
 use Rattle.cd_cells.specs.Kinds.{Kind}
 use Rattle.cd_cells.specs.Views.{tally, name_of}
-use Rattle.cd_cells.specs.Rule.{phase_at, count_at, root_at, stop_of, fresh_of, Fine, Rooted, Ticketed, Slot, Keeps, Waiting, Has, Ordered}
-use Rattle.cd_cells.specs.Steps.{Sat, handed, with_view, meeting, closing, Closed, Closes, stopping, Stops, Looks, knowing, Learns}
+use Rattle.cd_cells.specs.Rule.{root_at, stop_of, fresh_of, Fine, Rooted, Ticketed, Slot, Keeps, Has, Ordered}
+use Rattle.cd_cells.specs.Steps.{Sat, with_view, meeting, closing, Closed, Closes, stopping, Stops, Looks, knowing, Learns}
 use Rattle.cd_cells.proofs.Listed.{often_here, often_else}
-use Rattle.cd_cells.proofs.Sums.{total_set, total_at, put, put_here, put_else, put_each}
+use Rattle.cd_cells.proofs.Sums.{total_set, total_at, put, put_here, put_each}
 use Rattle.cd_cells.proofs.Placed.{in_arrived_root}
 use Rattle.cd_cells.proofs.Framing.{counts_kept, counts_moved, phases_stay, groups_alike, alike_self, groups_at_root, homes_moved, fine_set}
 use Rattle.cd_cells.proofs.Moving.{set_self, total_same, unmoved_at}
@@ -44,7 +44,7 @@ unfolding tally
 close_fine k want table v f = record { table = f.table; named = f.named; turned = f.turned; held = f.held; names = f.names; last = f.last }
 
 module _ {K T : Type 0} (k : Kind T) (key : K) (s : State (Option (Cell K T)) (View K)) (r : Ordered k key s) (id : ℕ) (v : View K)
-  (at : get_elem? s.views id ≡ some v) where
+    (at : get_elem? s.views id ≡ some v) where
   close_kept : r.place 0 ≡ arrived → (c : List (ℕ × Option (Cell K T))) (y : Option (Cell K T))
       → Ordered k key (stepped s (root_at k.count) 2 id c (closing v) (takes_slot 0 y))
   close_kept is c y = record {
@@ -203,12 +203,17 @@ module _ {K T : Type 0} (kind : K → Kind T) (key : K) (slots id : ℕ) (me : S
         subst (λ t. Ordered k key (stepped s (root_at k.count) (either t 2 n) id me.1 w (takes_slot 0 (Some kept.cell)))) (sym (eq-eqb n 0 e))
             (close_kept k key s r id me.0 at is me.1 (Some kept.cell)),
         of_key key me is_key (λ z. (n ≡ 0 → (c : Cell K T) × Closed (kind z) z me (w, (0, Some kept.cell) ∷ me.1) c (Some c))
-            × (n ≢ 0 → (w, (0, Some kept.cell) ∷ me.1) ≡ with_view me (meeting me.0 Meeting.Close 0 n)))
-            ((λ _. (kept.cell, record {
-              now = refl;
-              ended = subst (λ (a : Ask). k.Ended a kept.cell.state) r.asked kept.answers;
-              ticket = subst (λ (a : Ask). Ticketed key me.0.table a kept.cell) r.asked (subst (λ (l : List ℕ). Ticketed key l (r.want 0) kept.cell) (sym table) kept.ticket);
-            })), λ ne. absurd (ne e)),
+            × (n ≢ 0 → (w, (0, Some kept.cell) ∷ me.1) ≡ with_view me (meeting me.0 Meeting.Close 0 n))) (
+              (λ _. (
+                kept.cell,
+                record {
+                  now = refl;
+                  ended = subst (λ (a : Ask). k.Ended a kept.cell.state) r.asked kept.answers;
+                  ticket = subst (λ (a : Ask). Ticketed key me.0.table a kept.cell) r.asked (subst (λ (l : List ℕ). Ticketed key l (r.want 0) kept.cell) (sym table) kept.ticket);
+                },
+              )),
+              λ ne. absurd (ne e),
+            ),
       ))
       (λ ne.
       let w : View K = meeting me.0 Meeting.Close 0 n in (

@@ -1,20 +1,20 @@
 -- The last arriver takes a member, and leaves its cell empty.
-use Rattle.std.proofs.Common.{◌≡◌, ◌≢◌, ℕ, ◌+◌, ◌*◌, ◌/◌, ◌<◌, ◌≤◌, List, [], ◌∷◌, length, get_or, set, Option, None, Some, sym, refl, ap, subst, ◌∙◌, arith}
-use mathlib.Core.Option.{some, none}
+use Rattle.std.proofs.Common.{◌≡◌, ◌≢◌, ℕ, ◌+◌, ◌*◌, ◌/◌, ◌<◌, ◌≤◌, List, ◌∷◌, None, Some, sym, refl, ap, subst, arith}
+use mathlib.Core.Option.{none}
 use lib.ListN.{get_elem?}
-use Rattle.atomic_table.specs.Table.{State, rest, step, stepped, takes as takes_slot, gives, Allows}
+use Rattle.atomic_table.specs.Table.{rest, step, takes as takes_slot, gives, Allows}
 use Rattle.atomic_table.specs.Seated.{TableId}
 use Rattle.cd_cells.specs.declared.view.Ask.{Ask}
 use Rattle.cd_cells.specs.declared.view.View.{View}
 use Rattle.cd_cells.specs.declared.view.Cell.{Cell}
-use Rattle.cd_cells.specs.Places.{Where, Sort, phase, mark, content}
+use Rattle.cd_cells.specs.Places.{Where, Sort, mark, content}
 use Rattle.cd_cells.specs.Places.Where.{owed, taken, cleared}
 use Rattle.cd_cells.specs.Places.Sort.{rights, owes, takes, clears, names}
 use Rattle.cd_cells.specs.Listing.{often, nodes, one_out}
 use Rattle.cd_cells.specs.Kinds.{Kind}
 use Rattle.cd_cells.specs.Views.{name_of, tally}
 use Rattle.cd_cells.specs.Rule.{phase_at, Fine, Ticketed, Keeps, Has, Ordered}
-use Rattle.cd_cells.specs.Steps.{Sat, handed, homing, taking, Taken, Takes, clearing, Clears}
+use Rattle.cd_cells.specs.Steps.{Sat, homing, taking, Taken, Takes, clearing, Clears}
 use Rattle.cd_cells.proofs.Listed.{often_here, often_else, often_one_less, often_out_else}
 use Rattle.cd_cells.proofs.Placed.{in_owed, in_taken}
 use Rattle.cd_cells.proofs.Framing.{within_mark, Alike}
@@ -109,14 +109,16 @@ module _ {K T : Type 0} (kind : K → Kind T) (key : K) (slots id : ℕ) (me : S
             (λ x t. take_on me.0 d x t owing)
             (take_fine me.0 d (kind key) r.want r.table f owing)
             refl refl me.1 (Some kept.cell),
-        of_key key me is_key (λ z. (c : Cell K T) × Taken (kind z) z me ((2 * d + 1) / 2) (w, (d, Some kept.cell) ∷ me.1) c (Some c))
-            (kept.cell, subst (λ (x : ℕ). Taken (kind key) key me x (w, (d, Some kept.cell) ∷ me.1) kept.cell (Some kept.cell)) (domain_of_phase d) (record {
-              ask = r.want d;
-              node = (r.homes d h).1;
-              now = refl;
-              ended = kept.answers;
-              ticket = subst (λ (l : List ℕ). Ticketed key l (r.want d) kept.cell) (sym table) kept.ticket;
-            })),
+        of_key key me is_key (λ z. (c : Cell K T) × Taken (kind z) z me ((2 * d + 1) / 2) (w, (d, Some kept.cell) ∷ me.1) c (Some c)) (
+          kept.cell,
+          subst (λ (x : ℕ). Taken (kind key) key me x (w, (d, Some kept.cell) ∷ me.1) kept.cell (Some kept.cell)) (domain_of_phase d) (record {
+            ask = r.want d;
+            node = (r.homes d h).1;
+            now = refl;
+            ended = kept.answers;
+            ticket = subst (λ (l : List ℕ). Ticketed key l (r.want d) kept.cell) (sym table) kept.ticket;
+          }),
+        ),
       )
 
   pub clear_allows : (d : ℕ) → d < (kind key).count → me.1 ≡ (d, None) ∷ rest me.1 → 0 < tally takes d me.0 → 0 < tally names d me.0

@@ -1,5 +1,5 @@
 -- The last of a group arrives: the pass may take the members, and then the parent.
-use Rattle.std.proofs.Common.{◌≡◌, ◌≢◌, ℕ, zero, suc, ◌+◌, ◌-◌, ◌*◌, ◌%◌, ◌^◌, ◌<◌, ◌≤◌, ◌==◌, List, [], ◌∷◌, ◌++◌, length, get_or, set, Option, None, Some, sym, refl, ap, subst, ◌∙◌, arith, ⊎_elim, length-set, get_or-set_same, get_or-set_other}
+use Rattle.std.proofs.Common.{◌≡◌, ◌≢◌, ℕ, ◌+◌, ◌-◌, ◌*◌, ◌%◌, ◌^◌, ◌<◌, ◌≤◌, ◌==◌, List, ◌∷◌, length, get_or, set, Option, Some, sym, refl, ap, subst, ◌∙◌, arith, ⊎_elim, length-set, get_or-set_same, get_or-set_other}
 use Rattle.std.proofs.lemmas.Bool.{cases_eq}
 use mathlib.Core.Option.{Option as Maybe, some, none}
 use lib.ListN.{get_elem?}
@@ -10,22 +10,22 @@ use Rattle.cd_cells.specs.declared.view.Ask.{Ask}
 use Rattle.cd_cells.specs.declared.view.Meeting.{Meeting}
 use Rattle.cd_cells.specs.declared.view.View.{View}
 use Rattle.cd_cells.specs.declared.view.Cell.{Cell}
-use Rattle.cd_cells.specs.Places.{Where, Sort, phase, mark, ahead, rests, ends, side, seal, over, content}
+use Rattle.cd_cells.specs.Places.{Where, Sort, phase, mark, ahead, rests, ends, side, content}
 use Rattle.cd_cells.specs.Places.Where.{out, waiting, full, arrived, owed}
-use Rattle.cd_cells.specs.Places.Sort.{holds, lasts, owes, takes, clears, posts, claims, arrives}
+use Rattle.cd_cells.specs.Places.Sort.{holds, lasts, owes, posts, claims, arrives}
 use Rattle.cd_cells.specs.Listing.{one_if, often, weigh, nodes, one_out, find, ask_out}
-use Rattle.cd_cells.specs.Kinds.{Kind, IsMember}
+use Rattle.cd_cells.specs.Kinds.{Kind}
 use Rattle.cd_cells.specs.Views.{name_of, tally}
-use Rattle.cd_cells.specs.Rule.{phase_at, count_at, root_at, stop_of, Counts, Groups, Rooted, Fine, Ticketed, Has, Homes, Ordered}
+use Rattle.cd_cells.specs.Rule.{count_at, root_at, stop_of, Counts, Groups, Rooted, Fine, Ticketed, Has, Homes, Ordered}
 use Rattle.cd_cells.specs.Steps.{Sat, homing, meeting, arriving, arriving_last, Arrives}
-use Rattle.cd_cells.proofs.Listed.{one_at, one_off, often_here, often_else, often_append, often_one_less, often_out_else, nodes_out, knows_out, weigh_same, weigh_less, weigh_zero, weigh_none}
-use Rattle.cd_cells.proofs.Sums.{put, put_here, put_else, put_each, fan, fan_here, fan_each, some_or_none}
+use Rattle.cd_cells.proofs.Listed.{one_at, often_here, often_else, often_append, often_one_less, often_out_else, nodes_out, knows_out, weigh_same, weigh_less, weigh_zero, weigh_none}
+use Rattle.cd_cells.proofs.Sums.{put, put_here, put_else, fan, fan_here, fan_each, some_or_none}
 use Rattle.cd_cells.proofs.Placed.{in_out, in_arrived}
 use Rattle.cd_cells.proofs.Framing.{within_mark, counts_kept, phases_stay, fine_set}
 use Rattle.cd_cells.proofs.Moving.{total_same}
 use Rattle.cd_cells.proofs.Sending.{table_is, of_key}
 use Rattle.cd_cells.proofs.Resting.{held_as, same_hand}
-use Rattle.cd_cells.proofs.Arriving.{parent_below, in_parents, parent_rests, parent_waits, parent_counts, some_ahead, member_kept}
+use Rattle.cd_cells.proofs.Arriving.{parent_below, in_parents, parent_waits, parent_counts, some_ahead, member_kept}
 
 -- ---- what the pass lists after it
 
@@ -88,8 +88,8 @@ module _ {K T : Type 0} (k : Kind T) (v : View K) (d : ℕ) where
 -- ---- the step
 
 module _ {K T : Type 0} (k : Kind T) (key : K) (s : State (Option (Cell K T)) (View K)) (r : Ordered k key s) (id : ℕ) (v : View K)
-  (at : get_elem? s.views id ≡ some v) (d : ℕ) (h : d < k.count) (is : r.place d ≡ out) (above : 0 < d)
-  (word : get_or s.words (count_at (k.up d)) 0 ≡ 1) where
+    (at : get_elem? s.views id ≡ some v) (d : ℕ) (h : d < k.count) (is : r.place d ≡ out) (above : 0 < d)
+    (word : get_or s.words (count_at (k.up d)) 0 ≡ 1) where
   abbrev p : ℕ
   p = k.up d
 
@@ -216,6 +216,7 @@ module _ {K T : Type 0} (k : Kind T) (key : K) (s : State (Option (Cell K T)) (V
     where
       here : get_or (set s.words (count_at p) 0) (count_at p) 0 ≡ 0
       here = get_or-set_same s.words (2 * p + 2) 0 0 (let w : length s.words ≡ 2 * k.count + 2 = r.words in let b = below in omega arith)
+
       there : (q : ℕ) → q ≢ p → get_or (set s.words (count_at p) 0) (count_at q) 0 ≡ get_or s.words (count_at q) 0
       there q ne = get_or-set_other s.words (2 * p + 2) (2 * q + 2) 0 0 (λ e. ne (omega arith))
 

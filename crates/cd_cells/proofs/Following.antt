@@ -1,21 +1,18 @@
 -- The laws that follow from the rule.
-use Rattle.std.proofs.Common.{◌≡◌, ◌≢◌, ℕ, ◌+◌, ◌<◌, ◌≤◌, ◌==◌, ◌⊎◌, inl, inr, List, [], ◌∷◌, get_or, Option, None, Some, sym, refl, ap, subst, ◌∙◌, arith, ⊎_elim}
-use mathlib.Core.Option.{Option as Maybe, some, none, some-injective, some-ne-none}
+use Rattle.std.proofs.Common.{◌≡◌, ◌≢◌, ℕ, ◌+◌, ◌<◌, ◌≤◌, ◌==◌, ◌⊎◌, inl, inr, List, get_or, Option, None, Some, sym, refl, ap, subst, ◌∙◌, arith, ⊎_elim}
+use mathlib.Core.Option.{some, none, some-injective, some-ne-none}
 use lib.ListN.{get_elem?}
-use Rattle.atomic_table.specs.Table.{State}
 use Rattle.cd_cells.specs.declared.view.Ask.{Ask}
-use Rattle.cd_cells.specs.declared.view.View.{View}
 use Rattle.cd_cells.specs.declared.view.Cell.{Cell}
-use Rattle.cd_cells.specs.Places.{Where, Sort, Content, phase, behind, unmet, mark, rests, side, seal, over, content}
-use Rattle.cd_cells.specs.Places.Where.{idle, due, turning, ready, out, waiting, full, arrived, owed, taken, cleared, gone}
+use Rattle.cd_cells.specs.Places.{Where, Content, phase, behind, unmet, mark, rests, side, seal, over, content}
+use Rattle.cd_cells.specs.Places.Where.{idle, turning, ready, out, waiting, full, owed, taken, cleared, gone}
 use Rattle.cd_cells.specs.Places.Sort.{rights, turns, holds, shuts, takes, names, posts, claims, arrives}
 use Rattle.cd_cells.specs.Places.Content.{nothing, away, fresh, waits, ended}
-use Rattle.cd_cells.specs.Listing.{one_if, often, total, find}
+use Rattle.cd_cells.specs.Listing.{one_if, often, find}
 use Rattle.cd_cells.specs.Kinds.{Kind}
 use Rattle.cd_cells.specs.Views.{tally}
-use Rattle.cd_cells.specs.Rule.{phase_at, Slot, Waiting, Has, Ordered}
-use Rattle.cd_cells.specs.Laws.{all_of, RestsAt, CountsOf, CountsAgree, Bounded, ClaimedOnce, RootOnce, in_hands, Handed, OneHand, AsksIn, AsksOfParents}
-use Rattle.cd_cells.proofs.Sums.{some_or_none}
+use Rattle.cd_cells.specs.Rule.{phase_at, Slot, Waiting, Has}
+use Rattle.cd_cells.specs.Laws.{all_of, CountsAgree, ClaimedOnce, RootOnce, OneHand, AsksOfParents}
 use Rattle.cd_cells.proofs.Framing.{within_mark}
 use Rattle.cd_cells.proofs.Resuming.{named_as}
 

@@ -1,16 +1,14 @@
 -- What a step of one pass leaves of each part of the rule.
-use Rattle.std.proofs.Common.{◌≡◌, ◌≢◌, ℕ, zero, suc, ◌+◌, ◌*◌, ◌<◌, ◌≤◌, ◌⊎◌, List, [], ◌∷◌, length, get_or, set, Option, sym, refl, ap, subst, ◌∙◌, arith, ⊎_elim, get_or-set_same, get_or-set_other}
-use Rattle.std.proofs.lemmas.Bool.{cases_eq}
+use Rattle.std.proofs.Common.{◌≡◌, ◌≢◌, ℕ, suc, ◌+◌, ◌*◌, ◌<◌, ◌≤◌, List, length, get_or, set, Option, sym, refl, ap, subst, ◌∙◌, arith, ⊎_elim, get_or-set_same, get_or-set_other}
 use mathlib.Core.Option.{Option as Maybe, some}
 use lib.ListN.{get_elem?}
-use Rattle.atomic_table.specs.Table.{State}
 use Rattle.atomic_table.proofs.Lists.{at_set}
 use Rattle.cd_cells.specs.declared.view.Ask.{Ask}
 use Rattle.cd_cells.specs.declared.view.View.{View}
 use Rattle.cd_cells.specs.declared.view.Cell.{Cell}
 use Rattle.cd_cells.specs.Places.{Where, Sort, phase, mark, ahead, rests, ends, side, content}
 use Rattle.cd_cells.specs.Places.Where.{waiting}
-use Rattle.cd_cells.specs.Listing.{often, weigh, total}
+use Rattle.cd_cells.specs.Listing.{often, total}
 use Rattle.cd_cells.specs.Kinds.{Kind}
 use Rattle.cd_cells.specs.Views.{tally}
 use Rattle.cd_cells.specs.Rule.{phase_at, count_at, root_at, Counts, Phases, Groups, Fine, Has, Homes}
@@ -20,7 +18,7 @@ use Rattle.cd_cells.proofs.Sums.{total_set, total_at, put, put_else, put_each}
 -- ---- hands, rights and counts
 
 module _ {K : Type 0} (n : ℕ) (place : ℕ → Where) (times : ℕ → ℕ) (views : List (View K)) (r : Counts n place times views) (id : ℕ) (v : View K)
-  (at : get_elem? views id ≡ some v) where
+    (at : get_elem? views id ≡ some v) where
   -- what a pass lists is within the mark of the place
   pub within_mark : (q : Sort) (d : ℕ) → d < n → tally q d v ≤ mark q (place d) (times d)
   within_mark q d h = let t = total_at (tally q d) views id v at in let c : total (tally q d) views ≡ mark q (place d) (times d) = r q d h in omega arith
@@ -116,17 +114,20 @@ groups_at_root k place q group words words' r same_rests same_ends waits stays =
   where
     not_root : (p : ℕ) → p < k.count → (m : ℕ) → 0 < often m (group p) → m ≢ 0
     not_root p l m i z = let a : 0 < m = (r.member p l m i).above in omega arith
+
     rests_as : (p : ℕ) → rests (put place 0 q p) ≡ rests (place p)
     rests_as = put_each place 0 q (λ p x. rests x ≡ rests (place p)) same_rests (λ p ne. refl)
+
     ends_as : (p : ℕ) → ends (put place 0 q p) ≡ ends (place p)
     ends_as = put_each place 0 q (λ p x. ends x ≡ ends (place p)) same_ends (λ p ne. refl)
+
     waits_before : (p : ℕ) → put place 0 q p ≡ waiting → place p ≡ waiting
     waits_before = put_each place 0 q (λ p x. x ≡ waiting → place p ≡ waiting) waits (λ p ne e. e)
 
 -- ---- cells at home
 
 module _ {K T : Type 0} (k : Kind T) (key : K) (table : List ℕ) (want : ℕ → Ask) (group : ℕ → List ℕ) (place : ℕ → Where)
-  (homes : List (Maybe (Option (Cell K T)))) (r : Homes k key table want group place homes) where
+    (homes : List (Maybe (Option (Cell K T)))) (r : Homes k key table want group place homes) where
   pub homes_moved : (homes' : List (Maybe (Option (Cell K T)))) (d : ℕ) (p' : Where) → d < k.count
       → ((e : ℕ) → e ≢ d → get_elem? homes' e ≡ get_elem? homes e)
       → Has k key table want d (group d) (content p') (get_elem? homes' d)

@@ -1,5 +1,5 @@
 -- A step that moves one domain, or none, keeps the rule.
-use Rattle.std.proofs.Common.{◌≡◌, ◌≢◌, ℕ, zero, suc, ◌+◌, ◌*◌, ◌<◌, ◌≤◌, List, [], ◌∷◌, length, get_or, set, Option, None, Some, sym, refl, ap, subst, ◌∙◌, arith, length-set, get_or-set_other}
+use Rattle.std.proofs.Common.{◌≡◌, ◌≢◌, ℕ, zero, suc, ◌+◌, ◌*◌, ◌<◌, List, [], ◌∷◌, length, get_or, set, Option, sym, refl, ap, subst, ◌∙◌, arith, length-set, get_or-set_other}
 use mathlib.Core.Option.{Option as Maybe, some, none}
 use lib.ListN.{get_elem?}
 use Rattle.atomic_table.specs.Table.{State, rest, put_back, stepped, takes, gives}
@@ -11,7 +11,7 @@ use Rattle.cd_cells.specs.Places.Content.{away}
 use Rattle.cd_cells.specs.Listing.{total}
 use Rattle.cd_cells.specs.Kinds.{Kind}
 use Rattle.cd_cells.specs.Views.{tally}
-use Rattle.cd_cells.specs.Rule.{phase_at, root_at, Rooted, Fine, Has, stop_of, fresh_of, Ordered}
+use Rattle.cd_cells.specs.Rule.{phase_at, root_at, Rooted, Fine, Has, stop_of, Ordered}
 use Rattle.cd_cells.proofs.Sums.{total_set, put, put_each}
 use Rattle.cd_cells.proofs.Framing.{counts_kept, counts_moved, count_stays, root_stays, phases_moved, Alike, alike_self, groups_alike, homes_moved, fine_set}
 
@@ -27,7 +27,7 @@ pub rooted_as : (p q : Where) → seal q ≡ seal p → over q ≡ over p → (t
 rooted_as p q s o t w r = record { word = r.word ∙ sym s; never = subst (λ (x : ℕ). x < 3) (sym s) r.never; times = r.times ∙ sym o }
 
 module _ {K T : Type 0} (k : Kind T) (key : K) (s : State (Option (Cell K T)) (View K)) (r : Ordered k key s) (id : ℕ) (v : View K)
-  (at : get_elem? s.views id ≡ some v) where
+    (at : get_elem? s.views id ≡ some v) where
   -- one domain goes from p to q, with its phase word and its slot
   pub moved : (d : ℕ) → d < k.count → (p q : Where) → r.place d ≡ p → Alike p q → seal q ≡ seal p → over q ≡ over p → (w : View K)
       → ((x : Sort) (e : ℕ) → e ≢ d → tally x e w ≡ tally x e v)

@@ -1,5 +1,5 @@
 -- A pass or a ticket is split off, and one is taken back.
-use Rattle.std.proofs.Common.{◌≡◌, ◌≢◌, ℕ, zero, suc, ◌+◌, ◌<◌, ◌≤◌, ◌⊎◌, inl, inr, List, [], ◌∷◌, ◌++◌, length, set, Option, None, sym, refl, ap, subst, ◌∙◌, arith, ⊎_elim, lit≤}
+use Rattle.std.proofs.Common.{◌≡◌, ℕ, ◌+◌, ◌<◌, ◌≤◌, ◌⊎◌, inl, List, [], ◌∷◌, ◌++◌, set, Option, None, sym, refl, ap, subst, ◌∙◌, arith, ⊎_elim}
 use Rattle.std.proofs.lemmas.Bool.{cases_eq}
 use mathlib.Core.Option.{some}
 use lib.ListN.{get_elem?}
@@ -11,7 +11,7 @@ use Rattle.cd_cells.specs.declared.view.Cell.{Cell}
 use Rattle.cd_cells.specs.Places.{Where, Sort, mark}
 use Rattle.cd_cells.specs.Places.Where.{turning}
 use Rattle.cd_cells.specs.Places.Sort.{rights, turns, holds, shuts, lasts, owes, takes, clears, names, posts, claims, arrives}
-use Rattle.cd_cells.specs.Listing.{one_if, often, total, nodes, one_out, find, ask_out}
+use Rattle.cd_cells.specs.Listing.{often, total, nodes, one_out, find, ask_out}
 use Rattle.cd_cells.specs.Kinds.{Kind}
 use Rattle.cd_cells.specs.Views.{tally, newcomer, naming, joining}
 use Rattle.cd_cells.specs.Rule.{stop_of, Fine, Ordered}
@@ -54,9 +54,9 @@ module _ {K T : Type 0} (k : Kind T) (key : K) (s : State (Option (Cell K T)) (V
     split_kept left right same fine_left fine_right stops fresh = views_kept (set s.views id left ++ right ∷ [])
         (λ q d. sums (tally q d) (same q d))
         (λ j u e. ⊎_elim
-            (λ before. ⊎_elim (λ t. subst (Fine k r.want r.table) t.1 fine_left) (λ t. r.fine j u t.1) (at_set s.views id j left u before))
-            (λ is. subst (Fine k r.want r.table) is fine_right)
-            (at_snoc (set s.views id left) right u j e))
+        (λ before. ⊎_elim (λ t. subst (Fine k r.want r.table) t.1 fine_left) (λ t. r.fine j u t.1) (at_set s.views id j left u before))
+        (λ is. subst (Fine k r.want r.table) is fine_right)
+        (at_snoc (set s.views id left) right u j e))
         (sums (λ u. u.stops) stops)
         (sums (λ u. u.fresh) fresh)
       where
@@ -70,9 +70,9 @@ module _ {K T : Type 0} (k : Kind T) (key : K) (s : State (Option (Cell K T)) (V
     join_kept other w both spent ne at_other same fine_both fine_spent stops fresh = views_kept (set (set s.views id both) other spent)
         (λ q d. sums (tally q d) (same q d))
         (λ j u e. ⊎_elim
-            (λ t. subst (Fine k r.want r.table) t.1 fine_spent)
-            (λ before. ⊎_elim (λ t. subst (Fine k r.want r.table) t.1 fine_both) (λ t. r.fine j u t.1) (at_set s.views id j both u before.1))
-            (at_set (set s.views id both) other j spent u e))
+        (λ t. subst (Fine k r.want r.table) t.1 fine_spent)
+        (λ before. ⊎_elim (λ t. subst (Fine k r.want r.table) t.1 fine_both) (λ t. r.fine j u t.1) (at_set s.views id j both u before.1))
+        (at_set (set s.views id both) other j spent u e))
         (sums (λ u. u.stops) stops)
         (sums (λ u. u.fresh) fresh)
       where

@@ -1,8 +1,8 @@
 -- Which place a domain is in, by what its views, its phase word or its parent's group say.
-use Rattle.std.proofs.Common.{◌≡◌, ℕ, ◌+◌, ◌<◌, refl, arith}
-use Rattle.cd_cells.specs.Places.{Where, Sort, phase, mark, ahead, rests, ends, side, seal}
-use Rattle.cd_cells.specs.Places.Where.{idle, due, turning, ready, out, waiting, full, arrived, owed, taken, cleared, gone}
-use Rattle.cd_cells.specs.Places.Sort.{rights, turns, holds, lasts, owes, takes, clears, names}
+use Rattle.std.proofs.Common.{◌≡◌, ℕ, ◌<◌, refl, arith}
+use Rattle.cd_cells.specs.Places.{Where, phase, mark, ahead, rests, ends, side, seal}
+use Rattle.cd_cells.specs.Places.Where.{idle, due, turning, ready, out, waiting, full, arrived, owed, taken, cleared}
+use Rattle.cd_cells.specs.Places.Sort.{rights, turns, holds, lasts, owes, takes, clears}
 
 pub in_due : (p : Where) (t : ℕ) → 0 < mark rights p t → p ≡ due
 in_due due t h = refl

@@ -1,5 +1,5 @@
 -- A domain rests at a group: its members may be posted.
-use Rattle.std.proofs.Common.{◌≡◌, ◌≢◌, ℕ, zero, suc, ◌+◌, ◌*◌, ◌<◌, ◌≤◌, List, [], ◌∷◌, ◌++◌, map, length, get_or, set, Option, None, Some, vec_capacity, sym, refl, ap, subst, ◌∙◌, arith, ⊎_elim, length-set, get_or-set_same, get_or-set_other}
+use Rattle.std.proofs.Common.{◌≡◌, ◌≢◌, ℕ, ◌+◌, ◌*◌, ◌<◌, ◌≤◌, List, [], ◌∷◌, map, length, get_or, set, Option, None, Some, vec_capacity, sym, refl, ap, subst, ◌∙◌, arith, ⊎_elim, length-set, get_or-set_same, get_or-set_other}
 use Rattle.std.proofs.lemmas.Bool.{cases_eq}
 use mathlib.Core.Option.{Option as Maybe, some, none}
 use lib.ListN.{get_elem?}
@@ -9,27 +9,27 @@ use Rattle.atomic_table.specs.Seated.{TableId}
 use Rattle.cd_cells.specs.declared.view.Ask.{Ask}
 use Rattle.cd_cells.specs.declared.view.View.{View}
 use Rattle.cd_cells.specs.declared.view.Cell.{Cell}
-use Rattle.cd_cells.specs.Places.{Where, Sort, Content, phase, mark, ahead, rests, ends, side, seal, over, content}
+use Rattle.cd_cells.specs.Places.{Where, Sort, Content, phase, mark, ahead, rests, ends, side, content}
 use Rattle.cd_cells.specs.Places.Where.{idle, due, out, waiting}
-use Rattle.cd_cells.specs.Places.Sort.{rights, turns, holds, names, clears}
+use Rattle.cd_cells.specs.Places.Sort.{rights, turns, holds, names}
 use Rattle.cd_cells.specs.Places.Content.{nothing, away, fresh, waits, ended}
 use Rattle.cd_cells.specs.Listing.{often, weigh, nodes, one_out, find, ask_out}
-use Rattle.cd_cells.specs.Kinds.{Kind, IsMember, Lawful}
+use Rattle.cd_cells.specs.Kinds.{Kind, IsMember}
 use Rattle.cd_cells.specs.Views.{name_of, tally}
-use Rattle.cd_cells.specs.Rule.{phase_at, count_at, root_at, stop_of, Counts, Groups, Rooted, Fine, Ticketed, IsSpareList, Slot, Keeps, Waiting, Has, Homes, Ordered}
+use Rattle.cd_cells.specs.Rule.{count_at, root_at, stop_of, Counts, Groups, Rooted, Fine, Ticketed, IsSpareList, Slot, Keeps, Waiting, Has, Homes, Ordered}
 use Rattle.cd_cells.specs.Steps.{Sat, homing, resting, Rests}
-use Rattle.cd_cells.proofs.Listed.{often_append, often_one_less, often_out_else, nodes_append, nodes_out, nodes_map, find_node, knows_find, knows_out, knows_append, knows_map, knows_else, weigh_same, weigh_all}
-use Rattle.cd_cells.proofs.Sums.{total_at, put, put_here, put_else, put_each, spread, spread_in, spread_out, some_or_none}
+use Rattle.cd_cells.proofs.Listed.{often_append, often_one_less, often_out_else, nodes_append, nodes_out, nodes_map, knows_find, knows_out, knows_append, knows_map, knows_else, weigh_same, weigh_all}
+use Rattle.cd_cells.proofs.Sums.{put, put_here, put_else, put_each, spread, spread_in, spread_out, some_or_none}
 use Rattle.cd_cells.proofs.Placed.{in_out, in_idle}
 use Rattle.cd_cells.proofs.Framing.{within_mark, counts_kept, phases_stay, fine_set}
 use Rattle.cd_cells.proofs.Moving.{total_same}
-use Rattle.cd_cells.proofs.Sending.{inside, table_is, of_key}
+use Rattle.cd_cells.proofs.Sending.{table_is, of_key}
 
 -- ---- where what is wanted of other domains changes
 
 module _ {K T : Type 0} (k : Kind T) (want now : ℕ → Ask) (table : List ℕ) where
   module _ (v : View K) (f : Fine k want table v) (named : (e : ℕ) → 0 < tally names e v → now e ≡ want e)
-    (turned : (e : ℕ) → 0 < tally turns e v → now e ≡ want e) (held : (e : ℕ) → 0 < tally holds e v → now e ≡ want e) where
+      (turned : (e : ℕ) → 0 < tally turns e v → now e ≡ want e) (held : (e : ℕ) → 0 < tally holds e v → now e ≡ want e) where
     pub fine_now : Fine k now table v
     unfolding tally
     fine_now = record {
@@ -106,7 +106,7 @@ module _ {K T : Type 0} (k : Kind T) (v : View K) (d : ℕ) (t : T) (node : (m :
 -- ---- the step
 
 module _ {K T : Type 0} (k : Kind T) (key : K) (s : State (Option (Cell K T)) (View K)) (r : Ordered k key s) (id : ℕ) (v : View K)
-  (at : get_elem? s.views id ≡ some v) (d : ℕ) (h : d < k.count) (is : r.place d ≡ out) (c : Cell K T) (stands : k.Waits (r.want d) c.state) where
+    (at : get_elem? s.views id ≡ some v) (d : ℕ) (h : d < k.count) (is : r.place d ≡ out) (c : Cell K T) (stands : k.Waits (r.want d) c.state) where
   abbrev g : List ℕ
   g = k.group c.state
 
@@ -209,12 +209,16 @@ module _ {K T : Type 0} (k : Kind T) (key : K) (s : State (Option (Cell K T)) (V
     where
       due_ahead : (m : ℕ) → 0 < often m g → ahead (place' m) ≡ 1
       due_ahead = each (λ m x. 0 < often m g → ahead x ≡ 1) (λ i. refl) (λ m ne l i. refl) (λ m ne z i. absurd (omega arith))
+
       due_side : (m : ℕ) → 0 < often m g → side (place' m) ≡ 1
       due_side = each (λ m x. 0 < often m g → side x ≡ 1) (λ i. refl) (λ m ne l i. refl) (λ m ne z i. absurd (omega arith))
+
       always_rests : (p : ℕ) → p ≢ d → rests (place' p) ≡ rests (r.place p)
       always_rests = each (λ p x. p ≢ d → rests x ≡ rests (r.place p)) (λ ne. absurd (ne refl)) (λ p ne l _. ap rests (sym (idle_before p l))) (λ p ne z _. refl)
+
       waiting_before : (p : ℕ) → p ≢ d → place' p ≡ waiting → r.place p ≡ waiting
       waiting_before = each (λ p x. p ≢ d → x ≡ waiting → r.place p ≡ waiting) (λ ne. absurd (ne refl)) (λ p ne l _ e. absurd (let z : 0 ≡ 1 = ap rests e in omega arith)) (λ p ne z _ e. e)
+
       sent_before : (m : ℕ) → often m g ≡ 0 → 0 < side (place' m) → 0 < side (r.place m)
       sent_before = each (λ m x. often m g ≡ 0 → 0 < side x → 0 < side (r.place m))
           (λ z l. subst (λ (x : Where). 0 < side x) (sym is) l) (λ m ne l z. absurd (omega arith)) (λ m ne z _ l. l)

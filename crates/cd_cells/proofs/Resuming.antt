@@ -1,24 +1,24 @@
 -- The last arriver takes the parent, when it has cleared all members.
-use Rattle.std.proofs.Common.{◌≡◌, ◌≢◌, ℕ, ◌+◌, ◌*◌, ◌/◌, ◌<◌, ◌≤◌, ◌==◌, List, [], ◌∷◌, length, get_or, set, Option, None, Some, vec_capacity, sym, refl, ap, subst, ◌∙◌, arith, ⊎_elim, length-set, get_or-set_same, get_or-set_other}
+use Rattle.std.proofs.Common.{◌≡◌, ◌≢◌, ℕ, ◌+◌, ◌*◌, ◌/◌, ◌<◌, ◌≤◌, List, [], ◌∷◌, length, get_or, set, Option, Some, vec_capacity, sym, refl, ap, subst, ◌∙◌, arith, ⊎_elim, length-set, get_or-set_same, get_or-set_other}
 use Rattle.std.proofs.lemmas.Bool.{cases_eq}
-use mathlib.Core.Option.{Option as Maybe, some, none}
+use mathlib.Core.Option.{some, none}
 use lib.ListN.{get_elem?}
-use Rattle.atomic_table.specs.Table.{State, rest, step, stepped, takes as takes_slot, Allows}
+use Rattle.atomic_table.specs.Table.{State, step, stepped, takes as takes_slot, Allows}
 use Rattle.atomic_table.proofs.Lists.{set_here, set_else}
 use Rattle.atomic_table.specs.Seated.{TableId}
 use Rattle.cd_cells.specs.declared.view.Ask.{Ask}
 use Rattle.cd_cells.specs.declared.view.View.{View}
 use Rattle.cd_cells.specs.declared.view.Cell.{Cell}
-use Rattle.cd_cells.specs.Places.{Where, Sort, phase, mark, ahead, rests, ends, side, seal, over, content}
+use Rattle.cd_cells.specs.Places.{Where, Sort, phase, mark, ahead, rests, ends, side, content}
 use Rattle.cd_cells.specs.Places.Where.{idle, out, waiting, full, cleared}
-use Rattle.cd_cells.specs.Places.Sort.{rights, holds, lasts, owes, takes, clears, names}
-use Rattle.cd_cells.specs.Listing.{one_if, often, weigh, nodes, one_out, all_out, find, ask_out, asks_out}
+use Rattle.cd_cells.specs.Places.Sort.{holds, lasts, owes, takes, clears, names}
+use Rattle.cd_cells.specs.Listing.{often, weigh, nodes, one_out, all_out, find, asks_out}
 use Rattle.cd_cells.specs.Kinds.{Kind, IsMember}
 use Rattle.cd_cells.specs.Views.{name_of, tally}
-use Rattle.cd_cells.specs.Rule.{phase_at, count_at, root_at, stop_of, Counts, Phases, Groups, Rooted, Fine, Ticketed, IsSpareList, Waiting, Has, Homes, Ordered}
+use Rattle.cd_cells.specs.Rule.{phase_at, root_at, stop_of, Counts, Phases, Groups, Rooted, Fine, Ticketed, IsSpareList, Waiting, Has, Homes, Ordered}
 use Rattle.cd_cells.specs.Steps.{Sat, handed, resuming, Resumed, Resumes}
-use Rattle.cd_cells.proofs.Listed.{one_at, one_off, often_here, often_else, often_one_out, often_one_less, often_out_else, often_all_out, nodes_all_out, knows_find, knows_all_out, weigh_same}
-use Rattle.cd_cells.proofs.Sums.{put, put_here, put_else, put_each, fan, fan_here, fan_each, some_or_none}
+use Rattle.cd_cells.proofs.Listed.{often_here, often_else, often_one_less, often_out_else, often_all_out, nodes_all_out, knows_find, knows_all_out, weigh_same}
+use Rattle.cd_cells.proofs.Sums.{put, put_here, put_else, fan, fan_here, fan_each, some_or_none}
 use Rattle.cd_cells.proofs.Placed.{in_full, in_cleared, in_idle}
 use Rattle.cd_cells.proofs.Framing.{within_mark, counts_kept, count_stays, root_stays, fine_set}
 use Rattle.cd_cells.proofs.Moving.{total_same}
@@ -27,7 +27,7 @@ use Rattle.cd_cells.proofs.Sending.{domain_of_phase, table_is, of_key}
 -- ---- what the pass lists after it
 
 module _ {K : Type 0} (v : View K) (p : ℕ) (a : Ask) (node : a.node.0 ≡ p) (g : List ℕ) (cleared_all : (e : ℕ) → often e g ≤ tally clears e v)
-  (named_all : (e : ℕ) → often e g ≤ tally names e v) where
+    (named_all : (e : ℕ) → often e g ≤ tally names e v) where
   after_clears : (e : ℕ) → tally clears e (resuming v p a g) + often e g ≡ tally clears e v
   unfolding tally
   after_clears e = often_all_out g v.clears cleared_all e
@@ -88,8 +88,8 @@ module _ {K : Type 0} (v : View K) (p : ℕ) (a : Ask) (node : a.node.0 ≡ p) (
 -- ---- the step
 
 module _ {K T : Type 0} (k : Kind T) (key : K) (s : State (Option (Cell K T)) (View K)) (r : Ordered k key s) (id : ℕ) (v : View K)
-  (at : get_elem? s.views id ≡ some v) (p : ℕ) (h : p < k.count) (is : r.place p ≡ full)
-  (all_cleared : (m : ℕ) → 0 < often m (r.group p) → 0 < tally clears m v) where
+    (at : get_elem? s.views id ≡ some v) (p : ℕ) (h : p < k.count) (is : r.place p ≡ full)
+    (all_cleared : (m : ℕ) → 0 < often m (r.group p) → 0 < tally clears m v) where
   abbrev g : List ℕ
   g = r.group p
 
@@ -295,16 +295,18 @@ module _ {K T : Type 0} (kind : K → Kind T) (key : K) (slots id : ℕ) (me : S
         takes_slot p (Some kept.cell),
         kept.home,
         resume_kept k key s r id v at p h is all_there last me.1 (Some kept.cell),
-        of_key key me is_key (λ z. (c : Cell K T) × Resumed (kind z) z me ((2 * p + 1) / 2) (w, (p, Some kept.cell) ∷ me.1) c (Some c))
-            (kept.cell, subst (λ (x : ℕ). Resumed k key me x (w, (p, Some kept.cell) ∷ me.1) kept.cell (Some kept.cell)) (domain_of_phase p) (record {
-              ask = r.want p;
-              node = (r.homes p h).1;
-              now = ap (λ (l : List ℕ). handed me (resuming v p (r.want p) l) p (Some kept.cell)) (sym kept.group);
-              waits = kept.answers;
-              ticket = subst (λ (l : List ℕ). Ticketed key l (r.want p) kept.cell) (sym table) kept.ticket;
-              asks = λ i j.
-                  let j' : 0 < often i (r.group p) = subst (λ (l : List ℕ). 0 < often i l) kept.group j in
-                  sym (named_as k r.want r.table v i f (let b = f.names i (r.groups.member p h i j').below in let c = all_there i j' in omega arith)) ∙ kept.asks i j';
-              list = subst (λ (l : List ℕ). IsSpareList (length l) kept.cell.list.items (vec_capacity kept.cell.list)) (sym kept.group) kept.list;
-            })),
+        of_key key me is_key (λ z. (c : Cell K T) × Resumed (kind z) z me ((2 * p + 1) / 2) (w, (p, Some kept.cell) ∷ me.1) c (Some c)) (
+          kept.cell,
+          subst (λ (x : ℕ). Resumed k key me x (w, (p, Some kept.cell) ∷ me.1) kept.cell (Some kept.cell)) (domain_of_phase p) (record {
+            ask = r.want p;
+            node = (r.homes p h).1;
+            now = ap (λ (l : List ℕ). handed me (resuming v p (r.want p) l) p (Some kept.cell)) (sym kept.group);
+            waits = kept.answers;
+            ticket = subst (λ (l : List ℕ). Ticketed key l (r.want p) kept.cell) (sym table) kept.ticket;
+            asks = λ i j.
+                let j' : 0 < often i (r.group p) = subst (λ (l : List ℕ). 0 < often i l) kept.group j in
+                sym (named_as k r.want r.table v i f (let b = f.names i (r.groups.member p h i j').below in let c = all_there i j' in omega arith)) ∙ kept.asks i j';
+            list = subst (λ (l : List ℕ). IsSpareList (length l) kept.cell.list.items (vec_capacity kept.cell.list)) (sym kept.group) kept.list;
+          }),
+        ),
       )

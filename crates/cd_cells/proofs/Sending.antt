@@ -1,21 +1,21 @@
 -- A domain is turned, posted and claimed.
-use Rattle.std.proofs.Common.{◌≡◌, ◌≢◌, ℕ, zero, suc, ◌+◌, ◌*◌, ◌/◌, ◌<◌, ◌≤◌, List, [], ◌∷◌, length, get_or, set, Option, None, Some, unwrap_or, sym, refl, ap, subst, ◌∙◌, arith, ⊎_elim, ◌==◌, eq-eqb, ne_eqb}
+use Rattle.std.proofs.Common.{◌≡◌, ◌≢◌, ℕ, ◌+◌, ◌*◌, ◌/◌, ◌<◌, ◌≤◌, List, [], ◌∷◌, get_or, Option, None, Some, unwrap_or, sym, refl, ap, subst, ◌∙◌, arith, ⊎_elim, ◌==◌, eq-eqb, ne_eqb}
 use Rattle.std.proofs.lemmas.Bool.{cases_eq}
-use mathlib.Core.Option.{some, none}
+use mathlib.Core.Option.{none}
 use lib.ListN.{get_elem?}
 use prog.Atomic.{either}
-use Rattle.atomic_table.specs.Table.{State, rest, step, stepped, keeps, takes, gives, Allows}
+use Rattle.atomic_table.specs.Table.{rest, step, stepped, keeps, takes, gives, Allows}
 use Rattle.atomic_table.specs.Seated.{TableId}
 use Rattle.cd_cells.specs.declared.view.Ask.{Ask}
 use Rattle.cd_cells.specs.declared.view.Meeting.{Meeting}
 use Rattle.cd_cells.specs.declared.view.View.{View}
 use Rattle.cd_cells.specs.declared.view.Cell.{Cell}
-use Rattle.cd_cells.specs.Places.{Where, Sort, phase, mark, content}
+use Rattle.cd_cells.specs.Places.{Where, Sort, mark, content}
 use Rattle.cd_cells.specs.Places.Where.{due, turning as turning_place, ready, out}
-use Rattle.cd_cells.specs.Places.Sort.{rights, turns, holds, names, posts, claims, clears}
+use Rattle.cd_cells.specs.Places.Sort.{rights, turns, holds, names, posts, claims}
 use Rattle.cd_cells.specs.Listing.{often, nodes, one_out, find, ask_out}
 use Rattle.cd_cells.specs.Kinds.{Kind}
-use Rattle.cd_cells.specs.Views.{tally, naming, name_of}
+use Rattle.cd_cells.specs.Views.{tally, name_of}
 use Rattle.cd_cells.specs.Rule.{phase_at, Fine, Ticketed, Keeps, Has, Ordered}
 use Rattle.cd_cells.specs.Steps.{Sat, handed, homing, with_view, meeting, turning, Turns, posting, Posts, claiming, Claimed, Claims}
 use Rattle.cd_cells.proofs.Listed.{often_here, often_else, often_one_less, often_out_else, often_out_most, nodes_out, find_node, knows_find, knows_out}
@@ -212,14 +212,19 @@ module _ {K T : Type 0} (kind : K → Kind T) (key : K) (slots id : ℕ) (me : S
             (claim_fine (kind key) r.want r.table me.0 f d (r.want d) (ap r.want node))
             refl refl me.1 (Some kept.cell)),
         of_key key me is_key (λ z. (n ≡ 2 → (c : Cell K T) × Claimed (kind z) z me ((2 * d + 1) / 2) (w, (d, Some kept.cell) ∷ me.1) c (Some c))
-            × (n ≢ 2 → (w, (d, Some kept.cell) ∷ me.1) ≡ with_view me (meeting me.0 Meeting.Claim ((2 * d + 1) / 2) n)))
-            ((λ _. (kept.cell, subst (λ (x : ℕ). Claimed (kind key) key me x (w, (d, Some kept.cell) ∷ me.1) kept.cell (Some kept.cell)) (domain_of_phase d) (record {
-              ask = r.want d;
-              node = node;
-              now = refl;
-              ready = kept.answers;
-              ticket = subst (λ (l : List ℕ). Ticketed key l (r.want d) kept.cell) (sym table) kept.ticket;
-            }))), λ ne. absurd (ne e)),
+            × (n ≢ 2 → (w, (d, Some kept.cell) ∷ me.1) ≡ with_view me (meeting me.0 Meeting.Claim ((2 * d + 1) / 2) n))) (
+              (λ _. (
+                kept.cell,
+                subst (λ (x : ℕ). Claimed (kind key) key me x (w, (d, Some kept.cell) ∷ me.1) kept.cell (Some kept.cell)) (domain_of_phase d) (record {
+                  ask = r.want d;
+                  node = node;
+                  now = refl;
+                  ready = kept.answers;
+                  ticket = subst (λ (l : List ℕ). Ticketed key l (r.want d) kept.cell) (sym table) kept.ticket;
+                }),
+              )),
+              λ ne. absurd (ne e),
+            ),
       ))
       (λ ne.
       let w : View K = meeting me.0 Meeting.Claim d n in (

@@ -1,5 +1,5 @@
 -- The rule of the table of cells, which holds between any two steps.
-use Rattle.std.specs.Prelude.{◌≡◌, ℕ, zero, suc, ◌+◌, ◌*◌, ◌<◌, ◌≤◌, ◌⊎◌, List, [], ◌∷◌, Option, Some, None, length, slice_index, vec_len, vec_capacity}
+use Rattle.std.specs.Prelude.{◌≡◌, ℕ, zero, suc, ◌+◌, ◌*◌, ◌<◌, ◌≤◌, ◌⊎◌, List, [], ◌∷◌, Option, Some, None, length, slice_index, vec_capacity}
 use mathlib.Core.Option.{Option as Maybe, some, none}
 use lib.ListN.{get_elem?}
 use Rattle.atomic_table.specs.Table.{State}
@@ -8,9 +8,9 @@ use Rattle.cd_cells.specs.declared.view.View.{View}
 use Rattle.cd_cells.specs.declared.view.Cell.{Cell}
 use Rattle.cd_cells.specs.Places.{Where, Sort, Content, phase, mark, ahead, rests, ends, side, seal, over, content}
 use Rattle.cd_cells.specs.Places.Where.{waiting}
-use Rattle.cd_cells.specs.Places.Sort.{rights, turns, holds, lasts, owes, takes, clears, names}
+use Rattle.cd_cells.specs.Places.Sort.{rights, lasts, owes, takes, clears, names}
 use Rattle.cd_cells.specs.Places.Content.{nothing, away, fresh, waits, ended}
-use Rattle.cd_cells.specs.Listing.{often, weigh, total, nodes}
+use Rattle.cd_cells.specs.Listing.{often, weigh, total}
 use Rattle.cd_cells.specs.Kinds.{Kind, IsMember, Lawful}
 use Rattle.cd_cells.specs.Views.{tally, name_of, naming}
 

@@ -1,13 +1,12 @@
 -- What each kind of step changes in the stepping pass's view, and what it tells. A step on a domain's phase word says which domain it
 -- is by its word; one that brings a cell home, by the cell in hand.
-use Rattle.std.specs.Prelude.{◌≡◌, ◌≢◌, ℕ, ◌+◌, ◌*◌, ◌/◌, ◌%◌, ◌<◌, ◌≤◌, List, [], ◌∷◌, ◌++◌, map, length, Option, None, Some, vec_capacity, MatchOption}
+use Rattle.std.specs.Prelude.{◌≡◌, ◌≢◌, ℕ, ◌+◌, ◌/◌, ◌%◌, ◌<◌, List, [], ◌∷◌, ◌++◌, map, length, Option, None, Some, vec_capacity, MatchOption}
 use Rattle.atomic_table.specs.Table.{Me, Step, rest}
 use Rattle.cd_cells.specs.declared.view.Ask.{Ask}
 use Rattle.cd_cells.specs.declared.view.Meeting.{Meeting}
-use Rattle.cd_cells.specs.declared.view.Met.{Met}
 use Rattle.cd_cells.specs.declared.view.View.{View}
 use Rattle.cd_cells.specs.declared.view.Cell.{Cell}
-use Rattle.cd_cells.specs.Listing.{often, nodes, one_out, all_out, find, ask_out, asks_out}
+use Rattle.cd_cells.specs.Listing.{often, one_out, all_out, find, ask_out, asks_out}
 use Rattle.cd_cells.specs.Kinds.{Kind}
 use Rattle.cd_cells.specs.Rule.{Ticketed, IsSpareList}
 

@@ -90,11 +90,7 @@ pub(crate) fn ticket<K, T: Shape<K>>(
 }
 
 // Takes back a seat of the same table that has nothing in hand.
-pub(crate) fn join<K, T: Shape<K>>(
-    table: &Steps<K, T>,
-    seat: &mut Place<K, T>,
-    child: Place<K, T>,
-)
+pub(crate) fn join<K, T: Shape<K>>(table: &Steps<K, T>, seat: &mut Place<K, T>, child: Place<K, T>)
     requires at { IsAt (T.kind table.now.key) table.now.key table.now.table_id seat.old.table_id seat.old.me.0 }
     requires same { child.table_id ≡ table.now.table_id }
     requires bare { child.me.1 ≡ [] }

@@ -1,6 +1,5 @@
 use Rattle.std.proofs.Common.{arith}
 use Rattle.cd_cells.proofs.Closing.{close_allows_at}
-
 use Rattle.cd_cells.proofs.arrivals.close_word.Goals as goal
 
 pub compare_exchange-requires : goal.compare_exchange-requires

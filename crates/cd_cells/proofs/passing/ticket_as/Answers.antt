@@ -1,4 +1,4 @@
-use Rattle.std.proofs.Common.{ℕ, ◌<◌, sym, ap, ◌∙◌, subst, arith}
+use Rattle.std.proofs.Common.{ℕ, subst, arith}
 use Rattle.atomic_table.specs.Table.{Splits}
 use Rattle.cd_cells.specs.Listing.{find}
 use Rattle.cd_cells.specs.Views.{naming}
