@@ -15,3 +15,4 @@ pub mod Handing
 pub mod Parting
 pub mod Following
 pub mod Beginning
+pub mod Rows

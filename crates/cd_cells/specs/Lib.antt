@@ -7,3 +7,4 @@ pub mod Rule
 pub mod Steps
 pub mod Seats
 pub mod Laws
+pub mod Sample

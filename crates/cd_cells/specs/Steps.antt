@@ -28,6 +28,10 @@ homing m v = (v, rest m.1)
 abbrev pub handed : {K T : Type 0} → Sat K T → View K → ℕ → Option (Cell K T) → Sat K T
 handed m v d c = (v, (d, c) ∷ m.1)
 
+-- a seat with nothing in hand
+abbrev pub bare : {K T : Type 0} → View K → Sat K T
+bare v = (v, [])
+
 -- a word that was met
 abbrev pub meeting : {K : Type 0} → View K → Meeting → ℕ → ℕ → View K
 meeting v by d n = record v { met = record { by = by; cell = d; word = n } ∷ v.met }
@@ -166,3 +170,19 @@ ClosedBy k key m m' result =
 -- join of a ticket: its name comes here
 abbrev pub also_naming : {K : Type 0} → View K → Ask → View K
 also_naming v a = record v { named = v.named ++ a ∷ [] }
+
+-- ---- several steps in a row
+
+-- turn, ticket and post
+abbrev pub sending : {K : Type 0} → View K → ℕ → View K
+sending v d = record v { rights = one_out d v.rights; named = ask_out d v.named; posts = d ∷ v.posts }
+
+-- take a member, join its ticket, clear
+abbrev pub collecting : {K : Type 0} → View K → ℕ → Ask → View K
+collecting v d a = record v { owes = one_out d v.owes; clears = d ∷ v.clears; named = v.named ++ a ∷ [] }
+
+pub record Collected {K T : Type 0} (k : Kind T) (m : Sat K T) (d : ℕ) (m' : Sat K T) (state : T) : Type 0 where
+  pub ask : Ask
+  pub node : ask.node.0 ≡ d
+  pub now : m' ≡ with_view m (collecting m.0 d ask)
+  pub ended : k.Ended ask state

@@ -8,6 +8,8 @@ mod passing;
 mod plays;
 mod rule;
 mod steps;
+#[cfg(test)]
+mod tests;
 mod view;
 
 pub use rule::{Order, Shape};

@@ -6,9 +6,10 @@ ghost use Rattle.cd_cells.specs.Places.Sort.{rights, turns, holds, names};
 ghost use Rattle.cd_cells.specs.Listing.{find};
 ghost use Rattle.cd_cells.specs.Views.{tally};
 ghost use Rattle.cd_cells.specs.Rule.{Ticketed, IsSpareList};
-ghost use Rattle.cd_cells.specs.Steps.{handed, homing, turning, posting, resting, with_view, meeting, Claimed, ClaimedBy};
+ghost use Rattle.cd_cells.specs.Steps.{handed, homing, turning, posting, sending, resting, with_view, meeting, Claimed, ClaimedBy};
 ghost use Rattle.cd_cells.specs.Seats.{IsAt};
 
+use crate::passing::ticket;
 use crate::plays::{Claiming, GoingToRest, Posting, Turning};
 use crate::rule::{Place, Shape, Steps};
 use crate::view::Cell;
@@ -123,4 +124,31 @@ pub(crate) fn rest_at<K, T: Shape<K>>(
 {
     table.exchange(seat, node.0 as usize, Some(cell));
     rest_word(table, seat, node, members);
+}
+
+// Sends a domain that the pass may post, with a state that is ready: turn, ticket, post.
+pub(crate) fn send<K, T: Shape<K>>(
+    table: &Steps<K, T>,
+    seat: &mut Place<K, T>,
+    node: NodeId,
+    state: T,
+    list: Vec<T>,
+)
+    requires at { IsAt (T.kind table.now.key) table.now.key table.now.table_id seat.old.table_id seat.old.me.0 }
+    requires below { node.0 < (T.kind table.now.key).count }
+    requires right { 0 < tally rights node.0 seat.old.me.0 }
+    requires named { 0 < tally names node.0 seat.old.me.0 }
+    requires ready { (T.kind table.now.key).Ready (find node.0 seat.old.me.0.named) state }
+    ensures at { IsAt (T.kind table.now.key) table.now.key table.now.table_id seat.new.table_id seat.new.me.0 }
+    ensures me { seat.new.me ≡ with_view seat.old.me (sending seat.old.me.0 node.0) }
+{
+    turn(table, seat, node);
+    let place = ticket(table, seat, node);
+    let ticket = place.into_badge();
+    let cell = Cell {
+        state,
+        ticket,
+        list,
+    };
+    post(table, seat, node, cell);
 }
