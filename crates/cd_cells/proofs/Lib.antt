@@ -16,3 +16,4 @@ pub mod Parting
 pub mod Following
 pub mod Beginning
 pub mod Rows
+pub mod Sampling

@@ -1,6 +1,5 @@
 -- For tests: a program of one domain, whose states may be anything.
 use Rattle.std.specs.Prelude.{◌≡◌, ℕ, List, [], Some}
-use Rattle.cd_cells.specs.declared.view.View.{View}
 use Rattle.cd_cells.specs.Listing.{no_ask}
 use Rattle.cd_cells.specs.Kinds.{Kind}
 use Rattle.cd_cells.specs.Views.{first_view}

@@ -1,7 +1,7 @@
-use Rattle.std.proofs.Common.{◌≡◌, ◌<◌, [], ◌∷◌, None, Some, sym, ap, subst, ◌∙◌}
+use Rattle.std.proofs.Common.{◌<◌, None, sym, ap, subst, ◌∙◌}
 use Rattle.cd_cells.specs.Places.Sort.{takes, names}
-use Rattle.cd_cells.specs.Views.{tally, naming}
-use Rattle.cd_cells.specs.Steps.{Sat, homing, with_view, taking, also_naming, clearing}
+use Rattle.cd_cells.specs.Views.{tally}
+use Rattle.cd_cells.specs.Steps.{Sat, homing, with_view, clearing}
 use Rattle.cd_cells.proofs.Handing.{taken_in_hand}
 use Rattle.cd_cells.proofs.Rows.{taken_there, named_there, collected, joined_member}
 use Rattle.cd_cells.proofs.arrivals.collect.Goals as goal

@@ -1,11 +1,9 @@
-use Rattle.std.proofs.Common.{◌≡◌, ◌<◌, [], ◌∷◌, None, sym, ap, subst, ◌∙◌}
-use Rattle.cd_cells.specs.declared.view.View.{View}
-use Rattle.cd_cells.specs.declared.view.Cell.{Cell}
+use Rattle.std.proofs.Common.{◌<◌, [], ◌∷◌, None, sym, ap, subst, ◌∙◌}
 use Rattle.cd_cells.specs.Places.Sort.{turns, names}
 use Rattle.cd_cells.specs.Listing.{find}
 use Rattle.cd_cells.specs.Views.{tally, naming}
 use Rattle.cd_cells.specs.Rule.{Ticketed}
-use Rattle.cd_cells.specs.Steps.{Sat, bare, homing, with_view, turning, unnaming, posting}
+use Rattle.cd_cells.specs.Steps.{Sat, bare, homing, with_view, unnaming, posting}
 use Rattle.cd_cells.proofs.Handing.{taken_in_hand}
 use Rattle.cd_cells.proofs.Rows.{turned_there, turned_after, found_first, sent, still_named, ticket_of}
 use Rattle.cd_cells.proofs.steps.send.Goals as goal
