@@ -1,19 +1,22 @@
 -- The laws that follow from the rule.
-use Rattle.std.proofs.Common.{◌≡◌, ◌≢◌, ℕ, ◌+◌, ◌<◌, ◌≤◌, ◌==◌, ◌⊎◌, inl, inr, List, get_or, Option, None, Some, sym, refl, ap, subst, ◌∙◌, arith, ⊎_elim}
+use Rattle.std.proofs.Common.{◌≡◌, ◌≢◌, ℕ, ◌+◌, ◌<◌, ◌≤◌, ◌==◌, ◌⊎◌, inl, inr, List, get_or, Option, None, Some, sym, refl, ap, subst, ◌∙◌, arith, ⊎_elim, zero, suc, ◌∷◌, []}
 use mathlib.Core.Option.{some, none, some-injective, some-ne-none}
 use lib.ListN.{get_elem?}
 use Rattle.cd_cells.specs.declared.view.Ask.{Ask}
+use Rattle.cd_cells.specs.declared.view.View.{View}
 use Rattle.cd_cells.specs.declared.view.Cell.{Cell}
-use Rattle.cd_cells.specs.Places.{Where, Content, phase, behind, unmet, mark, rests, side, seal, over, content}
+use Rattle.cd_cells.specs.Places.{Where, Content, phase, behind, unmet, mark, rests, side, seal, over, content, ahead, ends}
 use Rattle.cd_cells.specs.Places.Where.{idle, turning, ready, out, waiting, full, owed, taken, cleared, gone}
-use Rattle.cd_cells.specs.Places.Sort.{rights, turns, holds, shuts, takes, names, posts, claims, arrives}
+use Rattle.cd_cells.specs.Places.Sort.{rights, turns, holds, shuts, takes, names, posts, claims, arrives, lasts, owes, clears}
 use Rattle.cd_cells.specs.Places.Content.{nothing, away, fresh, waits, ended}
-use Rattle.cd_cells.specs.Listing.{one_if, often, find}
+use Rattle.cd_cells.specs.Listing.{one_if, often, find, total}
 use Rattle.cd_cells.specs.Kinds.{Kind}
 use Rattle.cd_cells.specs.Views.{tally}
 use Rattle.cd_cells.specs.Rule.{phase_at, Slot, Waiting, Has}
-use Rattle.cd_cells.specs.Laws.{all_of, CountsAgree, ClaimedOnce, RootOnce, OneHand, AsksOfParents}
+use Rattle.cd_cells.specs.Laws.{all_of, CountsAgree, ClaimedOnce, RootOnce, OneHand, AsksOfParents, LastHasAll}
 use Rattle.cd_cells.proofs.Framing.{within_mark}
+use Rattle.cd_cells.proofs.Listed.{weigh_none}
+use Rattle.cd_cells.proofs.Placed.{in_full}
 use Rattle.cd_cells.proofs.Resuming.{named_as}
 
 -- ---- numbers of a place
@@ -174,3 +177,79 @@ module _ {K T : Type 0} (kind : K → Kind T) where
             (kept.cell, kept.home, subst (λ (l : List ℕ). 0 < often d l) (sym kept.group) i, sym wanted ∙ kept.asks d i))
             (rests_is (r.place (k.up d)));
       }
+
+-- ---- the pass that may take a domain's members
+
+all_most : {A : Type 0} (f h : A → ℕ) (l : List A) → ((j : ℕ) (u : A) → get_elem? l j ≡ some u → f u ≤ h u) → total f l ≤ total h l
+all_most f h [] most = omega arith
+all_most f h (x ∷ xs) most = let a : f x ≤ h x = most zero x refl in let r = all_most f h xs (λ j u q. most (suc j) u q) in omega arith
+
+-- what of all views is at most one thing of them: who has all of the one has all of the other
+pub rest_most : {A : Type 0} (f h : A → ℕ) (l : List A) → ((j : ℕ) (u : A) → get_elem? l j ≡ some u → f u ≤ h u) → (i : ℕ) (v : A) → get_elem? l i ≡ some v
+    → total f l + h v ≤ total h l + f v
+rest_most f h [] most i v e = absurd (some-ne-none v (sym e))
+rest_most f h (x ∷ xs) most zero v e =
+    let a : f x ≡ f v = ap f (some-injective x v e) in
+    let b : h x ≡ h v = ap h (some-injective x v e) in
+    let c : total f xs ≤ total h xs = all_most f h xs (λ j u q. most (suc j) u q) in
+    omega arith
+rest_most f h (x ∷ xs) most (suc i) v e =
+    let a : f x ≤ h x = most zero x refl in
+    let r = rest_most f h xs (λ j u q. most (suc j) u q) i v e in
+    omega arith
+
+total_sum : {A : Type 0} (f h : A → ℕ) (l : List A) → total (λ u. f u + h u) l ≡ total f l + total h l
+total_sum f h [] = refl
+total_sum f h (x ∷ xs) = let r = total_sum f h xs in omega arith
+
+one_late : (p : Where) (t : ℕ) → side p ≡ 2 → mark owes p t + mark takes p t + mark clears p t ≡ 1
+one_late owed t h = refl
+one_late taken t h = refl
+one_late cleared t h = refl
+one_late _ t h = absurd (omega arith)
+
+not_ahead : (p : Where) → side p ≡ 2 → ahead p ≡ 0
+not_ahead owed h = refl
+not_ahead taken h = refl
+not_ahead cleared h = refl
+not_ahead _ h = absurd (omega arith)
+
+module _ {K T : Type 0} (kind : K → Kind T) where
+  pub last_has_all : LastHasAll kind
+  last_has_all key s r j v at p h last =
+      let k : Kind T = kind key in
+      let a : all_of lasts p s ≡ mark lasts (r.place p) (r.times p) = r.counts lasts p h in
+      let w = within_mark k.count r.place r.times s.views r.counts j v at lasts p h in
+      let is : r.place p ≡ full = in_full (r.place p) (r.times p) (omega arith) in
+      let one : all_of lasts p s ≡ 1 = a ∙ ap (λ (x : Where). mark lasts x (r.times p)) is in
+      let mine : tally lasts p v ≤ 1 = subst (λ (x : Where). tally lasts p v ≤ mark lasts x (r.times p)) is w in
+      let late : (m : ℕ) → 0 < often m (r.group p) → side (r.place m) ≡ 2 = λ m i. r.groups.sides p h m i ∙ ap (λ (x : Where). 1 + ends x) is in
+      let kept : Waiting k key r.table r.want p (r.group p) (get_elem? s.homes p) =
+      subst (λ (x : Where). Has k key r.table r.want p (r.group p) (content x) (get_elem? s.homes p)) is (r.homes p h).0 in (
+        one,
+        r.groups.word p h (ap rests is) ∙ weigh_none (λ m. ahead (r.place m)) (r.group p) (λ m i. not_ahead (r.place m) (late m i)),
+        (
+          kept.cell,
+          kept.home,
+          λ m i'.
+              let i : 0 < often m (r.group p) = subst (λ (l : List ℕ). 0 < often m l) kept.group i' in
+              let member = r.groups.member p h m i in
+              let f : View K → ℕ = λ u. tally owes m u + tally takes m u + tally clears m u in
+              let x : all_of owes m s ≡ mark owes (r.place m) (r.times m) = r.counts owes m member.below in
+              let y : all_of takes m s ≡ mark takes (r.place m) (r.times m) = r.counts takes m member.below in
+              let z : all_of clears m s ≡ mark clears (r.place m) (r.times m) = r.counts clears m member.below in
+              let all_one = one_late (r.place m) (r.times m) (late m i) in
+              let sums : total f s.views ≡ all_of owes m s + all_of takes m s + all_of clears m s =
+              total_sum (λ u. tally owes m u + tally takes m u) (tally clears m) s.views
+              ∙ ap (λ (n : ℕ). n + all_of clears m s) (total_sum (tally owes m) (tally takes m) s.views) in
+              let under : (n : ℕ) (u : View K) → get_elem? s.views n ≡ some u → f u ≤ tally lasts p u = λ n u e.
+              subst (λ (q : ℕ). f u ≤ tally lasts q u) member.parent ((r.fine n u e).last m member.above member.below) in
+              let most : total f s.views + tally lasts p v ≤ all_of lasts p s + f v = rest_most f (tally lasts p) s.views under j v at in
+              let here : f v ≤ tally lasts p v = under j v at in
+              record {
+                has = let g : ℕ = f v in let t : ℕ = total f s.views in let goal : g ≡ 1 = omega arith in goal;
+                named = let n = (r.fine j v at).names m member.below in omega arith;
+                alone = omega arith;
+              },
+        ),
+      )

@@ -19,7 +19,7 @@ use Rattle.cd_cells.specs.Views.{name_of, tally}
 use Rattle.cd_cells.specs.Rule.{count_at, root_at, stop_of, Counts, Groups, Rooted, Fine, Ticketed, IsSpareList, Slot, Keeps, Waiting, Has, Homes, Ordered}
 use Rattle.cd_cells.specs.Steps.{Sat, homing, resting, Rests}
 use Rattle.cd_cells.proofs.Listed.{often_append, often_one_less, often_out_else, nodes_append, nodes_out, nodes_map, knows_find, knows_out, knows_append, knows_map, knows_else, weigh_same, weigh_all}
-use Rattle.cd_cells.proofs.Sums.{put, put_here, put_else, put_each, spread, spread_in, spread_out, some_or_none}
+use Rattle.cd_cells.proofs.Sums.{put, put_here, put_else, spread, spread_in, spread_out, some_or_none, fan, fan_here, fan_each}
 use Rattle.cd_cells.proofs.Placed.{in_out, in_idle}
 use Rattle.cd_cells.proofs.Framing.{within_mark, counts_kept, phases_stay, fine_set}
 use Rattle.cd_cells.proofs.Moving.{total_same}
@@ -132,7 +132,7 @@ module _ {K T : Type 0} (k : Kind T) (key : K) (s : State (Option (Cell K T)) (V
   not_self = some_or_none (often d g) (λ z. z) (λ l. absurd (let a : out ≡ idle = sym is ∙ idle_before d l in let b : 1 ≡ 0 = ap side a in omega arith))
 
   abbrev place' : ℕ → Where
-  place' = put (spread r.place g (λ _. due)) d waiting
+  place' = fan r.place g due d waiting
 
   abbrev group' : ℕ → List ℕ
   group' = put r.group d g
@@ -142,9 +142,7 @@ module _ {K T : Type 0} (k : Kind T) (key : K) (s : State (Option (Cell K T)) (V
 
   -- three cases: the domain, its members, the others
   each : (P : ℕ → Where → Type 0) → P d waiting → ((e : ℕ) → e ≢ d → 0 < often e g → P e due) → ((e : ℕ) → e ≢ d → often e g ≡ 0 → P e (r.place e)) → (e : ℕ) → P e (place' e)
-  each P here member other = put_each (spread r.place g (λ _. due)) d waiting P here (λ e ne. some_or_none (often e g)
-      (λ z. subst (P e) (sym (spread_out r.place g (λ _. due) e z)) (other e ne z))
-      (λ l. subst (P e) (sym (spread_in r.place g (λ _. due) e l)) (member e ne l)))
+  each = fan_each r.place g due d waiting
 
   group_else : (p : ℕ) → p ≢ d → group' p ≡ r.group p
   group_else p ne = put_else r.group d g p ne
@@ -191,7 +189,7 @@ module _ {K T : Type 0} (k : Kind T) (key : K) (s : State (Option (Cell K T)) (V
         (cases_eq p d);
     sides = λ p l m i. ⊎_elim
         (λ (q : p ≡ d). due_side m (subst (λ (y : List ℕ). 0 < often m y) (ap group' q ∙ group_here) i)
-        ∙ subst (λ (x : ℕ). 1 ≡ 1 + ends (place' x)) (sym q) (ap (λ (x : Where). 1 + ends x) (sym (put_here (spread r.place g (λ _. due)) d waiting))))
+        ∙ subst (λ (x : ℕ). 1 ≡ 1 + ends (place' x)) (sym q) (ap (λ (x : Where). 1 + ends x) (sym (fan_here r.place g due d waiting))))
         (λ ne.
         let j : 0 < often m (r.group p) = subst (λ (y : List ℕ). 0 < often m y) (group_else p ne) i in
         same_as side refl m (in_group p l m j) ∙ (r.groups.sides p l m j ∙ ap (λ (x : ℕ). 1 + x) (sym (always_as ends refl refl p))))
@@ -202,7 +200,7 @@ module _ {K T : Type 0} (k : Kind T) (key : K) (s : State (Option (Cell K T)) (V
         subst (λ (y : List ℕ). 0 < often m y) (sym (group_else (k.up m) (not_here m above below before))) (r.groups.grouped m above below before))
         (λ i. subst (λ (y : List ℕ). 0 < often m y) (sym (ap group' (members m i).parent ∙ group_here)) i);
     none = λ p l rest. ⊎_elim
-        (λ (q : p ≡ d). absurd (let a : rests (place' p) ≡ 1 = ap (λ (x : ℕ). rests (place' x)) q ∙ ap rests (put_here (spread r.place g (λ _. due)) d waiting) in omega arith))
+        (λ (q : p ≡ d). absurd (let a : rests (place' p) ≡ 1 = ap (λ (x : ℕ). rests (place' x)) q ∙ ap rests (fan_here r.place g due d waiting) in omega arith))
         (λ ne. group_else p ne ∙ r.groups.none p l (sym (always_rests p ne) ∙ rest))
         (cases_eq p d);
   }

@@ -7,11 +7,11 @@ use Rattle.cd_cells.specs.declared.view.Ask.{Ask}
 use Rattle.cd_cells.specs.declared.view.View.{View}
 use Rattle.cd_cells.specs.declared.view.Cell.{Cell}
 use Rattle.cd_cells.specs.Places.{Sort}
-use Rattle.cd_cells.specs.Places.Sort.{rights, turns, holds, shuts, takes, names, posts, claims, arrives}
+use Rattle.cd_cells.specs.Places.Sort.{rights, turns, holds, shuts, lasts, owes, takes, clears, names, posts, claims, arrives}
 use Rattle.cd_cells.specs.Listing.{one_if, often, total, find}
 use Rattle.cd_cells.specs.Kinds.{Kind}
 use Rattle.cd_cells.specs.Views.{tally}
-use Rattle.cd_cells.specs.Rule.{phase_at, Ordered}
+use Rattle.cd_cells.specs.Rule.{phase_at, count_at, Ordered}
 
 -- how often all passes together list a domain
 abbrev pub all_of : {K T : Type 0} → Sort → ℕ → State (Option (Cell K T)) (View K) → ℕ
@@ -72,3 +72,15 @@ pub record AsksIn {K T : Type 0} (k : Kind T) (s : State (Option (Cell K T)) (Vi
 abbrev pub AsksOfParents : {K T : Type 0} → (K → Kind T) → Type 0
 AsksOfParents {K} {T} kind = (key : K) (s : State (Option (Cell K T)) (View K)) → Ordered (kind key) key s
     → (j : ℕ) (v : View K) → get_elem? s.views j ≡ some v → (d : ℕ) → d < (kind key).count → 0 < tally names d v → AsksIn (kind key) s v d
+
+-- the pass that may take the members of a domain has each of them: it owes its taking, has it in hand, or has cleared it and names it
+pub record HasMember {K T : Type 0} (s : State (Option (Cell K T)) (View K)) (v : View K) (m : ℕ) : Type 0 where
+  pub has : tally owes m v + tally takes m v + tally clears m v ≡ 1
+  pub named : tally clears m v ≤ tally names m v
+  pub alone : all_of owes m s + all_of takes m s + all_of clears m s ≡ 1
+
+abbrev pub LastHasAll : {K T : Type 0} → (K → Kind T) → Type 0
+LastHasAll {K} {T} kind = (key : K) (s : State (Option (Cell K T)) (View K)) → Ordered (kind key) key s
+    → (j : ℕ) (v : View K) → get_elem? s.views j ≡ some v → (p : ℕ) → p < (kind key).count → 0 < tally lasts p v
+    → (all_of lasts p s ≡ 1) × (slice_index s.words (count_at p) ≡ 0)
+    × ((c : Cell K T) × (get_elem? s.homes p ≡ some (some (Some c))) × ((m : ℕ) → 0 < often m ((kind key).group c.state) → HasMember s v m))

@@ -1,6 +1,6 @@
 //! Laws over the rule of the cells, between any two steps of the passes of a table: each is the contract of a function that does
 //! nothing.
-ghost use Rattle.cd_cells.specs.Laws.{CountsAgree, ClaimedOnce, RootOnce, OneHand, AsksOfParents};
+ghost use Rattle.cd_cells.specs.Laws.{CountsAgree, ClaimedOnce, RootOnce, OneHand, AsksOfParents, LastHasAll};
 
 use crate::rule::Shape;
 
@@ -29,4 +29,10 @@ pub fn away_is_in_one_hand<K, T: Shape<K>>()
 /// is at home and waits, asks of it.
 pub fn named_by_parents<K, T: Shape<K>>()
     ensures { AsksOfParents T.kind }
+{}
+
+/// Where a pass may take a domain's members, no other may, the domain's count word is 0, and the pass has each of its members: it owes
+/// its taking, has it in hand, or has cleared it and names it.
+pub fn last_arriver_has_all_members<K, T: Shape<K>>()
+    ensures { LastHasAll T.kind }
 {}
