@@ -1,4 +1,5 @@
--- Lists, sums over views, and each kind of step.
+-- Lists, sums over views, places, what a step leaves of each part of the rule; then each kind of step, the laws, the opening, and steps
+-- in a row.
 pub mod Listed
 pub mod Sums
 pub mod Placed

@@ -1,4 +1,5 @@
--- In reading order: where a domain can be, lists of domains, the states that the rule is about, what views list, the rule.
+-- In reading order: where a domain can be, lists of domains, the states that the rule is about, what views list, the rule; then what
+-- each kind of step tells, where a seat is, and the laws.
 pub mod Places
 pub mod Listing
 pub mod Kinds
