@@ -3,7 +3,7 @@ use Rattle.std.proofs.Common.{◌≡◌, ◌≢◌, ℕ, zero, suc, ◌+◌, ◌
 use mathlib.Core.Option.{Option as Maybe, some, some-injective, some-ne-none}
 use lib.ListN.{get_elem?}
 use Rattle.atomic_table.specs.Table.{opening}
-use Rattle.cd_cells.specs.declared.view.Ask.{Ask}
+use Rattle.cd_cells.specs.Asks.{Ask}
 use Rattle.cd_cells.specs.declared.view.View.{View}
 use Rattle.cd_cells.specs.declared.view.Cell.{Cell}
 use Rattle.cd_cells.specs.Places.{Where, Sort, phase, mark, rests, side, content}

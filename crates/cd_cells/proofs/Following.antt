@@ -2,7 +2,7 @@
 use Rattle.std.proofs.Common.{◌≡◌, ◌≢◌, ℕ, ◌+◌, ◌<◌, ◌≤◌, ◌==◌, ◌⊎◌, inl, inr, List, get_or, Option, None, Some, sym, refl, ap, subst, ◌∙◌, arith, ⊎_elim, zero, suc, ◌∷◌, []}
 use mathlib.Core.Option.{some, none, some-injective, some-ne-none}
 use lib.ListN.{get_elem?}
-use Rattle.cd_cells.specs.declared.view.Ask.{Ask}
+use Rattle.cd_cells.specs.Asks.{Ask}
 use Rattle.cd_cells.specs.declared.view.View.{View}
 use Rattle.cd_cells.specs.declared.view.Cell.{Cell}
 use Rattle.cd_cells.specs.Places.{Where, Content, phase, behind, unmet, mark, rests, side, seal, over, content, ahead, ends}

@@ -6,7 +6,7 @@ use lib.ListN.{get_elem?}
 use Rattle.atomic_table.specs.Table.{State, rest, put_back, step, stepped, gives, Allows}
 use Rattle.atomic_table.proofs.Lists.{set_here, set_else}
 use Rattle.atomic_table.specs.Seated.{TableId}
-use Rattle.cd_cells.specs.declared.view.Ask.{Ask}
+use Rattle.cd_cells.specs.Asks.{Ask}
 use Rattle.cd_cells.specs.declared.view.View.{View}
 use Rattle.cd_cells.specs.declared.view.Cell.{Cell}
 use Rattle.cd_cells.specs.Places.{Where, Sort, Content, phase, mark, ahead, rests, ends, side, content}

@@ -1,6 +1,6 @@
 -- What the rule knows of the states in the cells, and of the domains to which they belong.
 use Rattle.std.specs.Prelude.{◌≡◌, ℕ, ◌<◌, List, length}
-use Rattle.cd_cells.specs.declared.view.Ask.{Ask}
+use Rattle.cd_cells.specs.Asks.{Ask}
 use Rattle.cd_cells.specs.Listing.{often}
 
 -- how many domains there are; the parent of each but the root; the group of its parent in which each is a member; the root's ask;

@@ -1,6 +1,6 @@
 -- How often a number is listed, what is weighed, and what is taken out of a list.
 use Rattle.std.specs.Prelude.{ℕ, ◌+◌, Bool, true, false, ◌==◌, List, [], ◌∷◌, None, if◌then◌else◌}
-use Rattle.cd_cells.specs.declared.view.Ask.{Ask}
+use Rattle.cd_cells.specs.Asks.{Ask}
 
 abbrev pub one_if : Bool → ℕ
 one_if true = 1

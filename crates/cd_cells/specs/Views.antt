@@ -1,7 +1,7 @@
 -- What views list, and views of passes and tickets that have done nothing.
 use Rattle.std.specs.Prelude.{ℕ, List, [], ◌∷◌, ◌++◌, Option, ◌+◌}
 use Rattle.atomic_table.specs.Seated.{TableId}
-use Rattle.cd_cells.specs.declared.view.Ask.{Ask}
+use Rattle.cd_cells.specs.Asks.{Ask}
 use Rattle.cd_cells.specs.declared.view.View.{View}
 use Rattle.cd_cells.specs.Places.{Sort}
 use Rattle.cd_cells.specs.Places.Sort.{rights, turns, holds, shuts, lasts, owes, takes, clears, names, posts, claims, arrives}
