@@ -1,0 +1,20 @@
+use Rattle.std.proofs.Common.{arith, ℕ, Some, sym, subst}
+use Rattle.cd_cells.proofs.Emptying.{take_allows}
+use Rattle.cd_cells.specs.Steps.{Taken}
+use Rattle.cd_cells.proofs.Sending.{domain_of_phase}
+use Rattle.cd_cells.proofs.arrivals.take_word.Goals as goal
+
+pub store-requires : goal.store-requires
+store-requires g c = (
+  c.requires.at.same,
+  (let l = c.requires.at.long in let b = c.requires.below in omega arith),
+  take_allows g.T.Shape.kind c.args.table.now.key c.args.table.now.table_id.slots c.args.seat.now.id c.args.seat.now.me
+      c.args.node.0 c.requires.below c.requires.at.key_is c.args.table.now.table_id c.requires.at.named c.requires.owed,
+)
+
+pub returns-clause-taken : goal.returns-clause-taken
+returns-clause-taken g c =
+    let told = c.store.ensures.2 c.args.table.now.key c.requires.at.key_is in (
+      told.0,
+      subst (λ (d : ℕ). Taken (g.T.Shape.kind c.args.table.now.key) c.args.table.now.key c.args.seat.now.me d c.store.new.seat.me told.0 (Some told.0)) (sym (domain_of_phase c.args.node.0)) told.1,
+    )
