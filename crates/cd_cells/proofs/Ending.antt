@@ -14,7 +14,7 @@ use Rattle.cd_cells.specs.Places.{Where, Sort, phase, mark, ahead, rests, ends, 
 use Rattle.cd_cells.specs.Places.Where.{out, waiting, full, arrived, owed}
 use Rattle.cd_cells.specs.Places.Sort.{holds, lasts, owes, posts, claims, arrives}
 use Rattle.cd_cells.specs.Listing.{one_if, often, weigh, nodes, one_out, find, ask_out}
-use Rattle.cd_cells.specs.Kinds.{Kind}
+use Rattle.cd_cells.specs.Kinds.{Kind, IsMember, IsGrouped}
 use Rattle.cd_cells.specs.Views.{name_of, tally}
 use Rattle.cd_cells.specs.Rule.{count_at, root_at, stop_of, Counts, Groups, Rooted, Fine, Ticketed, Has, Homes, Ordered}
 use Rattle.cd_cells.specs.Steps.{Sat, homing, meeting, arriving, arriving_last, Arrives}
@@ -107,6 +107,12 @@ module _ {K T : Type 0} (k : Kind T) (key : K) (s : State (Option (Cell K T)) (V
 
   siblings_are : k.siblings d ≡ g
   siblings_are = (r.groups.member p below d self_in).same
+
+  pub last_grouped : IsGrouped k d
+  last_grouped = record {
+    own = subst (λ (y : List ℕ). 0 < often d y) (sym siblings_are) self_in;
+    each = λ m i. subst (λ (y : List ℕ). IsMember k p y m) (sym siblings_are) (r.groups.member p below m (subst (λ (y : List ℕ). 0 < often m y) siblings_are i));
+  }
 
   apart : p ≢ d
   apart e = absurd (let a : waiting ≡ out = sym parent_is ∙ (ap r.place e ∙ is) in let b : 1 ≡ 0 = ap rests a in omega arith)
@@ -313,10 +319,12 @@ module _ {K T : Type 0} (kind : K → Kind T) (key : K) (slots id : ℕ) (me : S
             (last_kept k key s r id me.0 at d h is above e held c has_ended ticketed me.1 in_hand),
         of_key key me is_key (λ z. (i : ℕ) (b : Cell K T) → me.1 ≡ (i, Some b) ∷ rest me.1
             → (n ≡ 1 → homing me w ≡ homing me (meeting (arriving_last (kind z) me.0 i) Meeting.Arrival ((kind z).up i) 1))
-            × (n ≢ 1 → homing me w ≡ homing me (meeting (arriving me.0 i) Meeting.Arrival ((kind z).up i) n)))
+            × (n ≢ 1 → homing me w ≡ homing me (meeting (arriving me.0 i) Meeting.Arrival ((kind z).up i) n))
+            × (n ≡ 1 → IsGrouped (kind z) i))
             (λ i b q. (
               (λ _. same_hand me.1 d i c b (sym in_hand ∙ q) (λ j a. homing me (meeting (arriving_last k me.0 j) Meeting.Arrival (k.up j) 1))),
-              λ ne. absurd (ne e),
+              (λ ne. absurd (ne e)),
+              λ _. subst (IsGrouped k) (same_hand me.1 d i c b (sym in_hand ∙ q) (λ j a. j)) (last_grouped k key s r id me.0 at d h is above e),
             )),
       ))
       (λ ne.
@@ -329,10 +337,12 @@ module _ {K T : Type 0} (kind : K → Kind T) (key : K) (slots id : ℕ) (me : S
             (member_kept k key s r id me.0 at d h is above n refl (omega arith) held c has_ended ticketed me.1 in_hand),
         of_key key me is_key (λ z. (i : ℕ) (b : Cell K T) → me.1 ≡ (i, Some b) ∷ rest me.1
             → (n ≡ 1 → homing me w ≡ homing me (meeting (arriving_last (kind z) me.0 i) Meeting.Arrival ((kind z).up i) 1))
-            × (n ≢ 1 → homing me w ≡ homing me (meeting (arriving me.0 i) Meeting.Arrival ((kind z).up i) n)))
+            × (n ≢ 1 → homing me w ≡ homing me (meeting (arriving me.0 i) Meeting.Arrival ((kind z).up i) n))
+            × (n ≡ 1 → IsGrouped (kind z) i))
             (λ i b q. (
               (λ e. absurd (ne e)),
-              λ _. same_hand me.1 d i c b (sym in_hand ∙ q) (λ j a. homing me (meeting (arriving me.0 j) Meeting.Arrival (k.up j) n)),
+              (λ _. same_hand me.1 d i c b (sym in_hand ∙ q) (λ j a. homing me (meeting (arriving me.0 j) Meeting.Arrival (k.up j) n))),
+              λ e. absurd (ne e),
             )),
       ))
       (cases_eq n 1)

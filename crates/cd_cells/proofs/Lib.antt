@@ -18,3 +18,7 @@ pub mod Following
 pub mod Beginning
 pub mod Rows
 pub mod Sampling
+pub mod Gathered
+pub mod HandLemmas
+pub mod PassLemmas
+pub mod StatesLawful

@@ -24,6 +24,11 @@ pub record IsMember {T : Type 0} (k : Kind T) (p : ℕ) (g : List ℕ) (m : ℕ)
   pub once : often m g ≡ 1
   pub same : k.siblings m ≡ g
 
+-- the siblings of a domain are the group of its parent in which it is a member
+pub record IsGrouped {T : Type 0} (k : Kind T) (d : ℕ) : Type 0 where
+  pub own : 0 < often d (k.siblings d)
+  pub each : (m : ℕ) → 0 < often m (k.siblings d) → IsMember k (k.up d) (k.siblings d) m
+
 -- what all this has to keep
 pub record Lawful {T : Type 0} (k : Kind T) : Type 0 where
   pub some : 0 < k.count

@@ -10,3 +10,10 @@ pub mod Steps
 pub mod Seats
 pub mod Laws
 pub mod Sample
+-- the states of domains
+pub mod States
+-- what a pass has in hand, and what an arrival comes to
+pub mod Hands
+pub mod Gathering
+pub mod Arrivals
+pub mod Passes

@@ -7,7 +7,7 @@ use Rattle.cd_cells.specs.declared.view.Meeting.{Meeting}
 use Rattle.cd_cells.specs.declared.view.View.{View}
 use Rattle.cd_cells.specs.declared.view.Cell.{Cell}
 use Rattle.cd_cells.specs.Listing.{often, one_out, all_out, find, ask_out, asks_out}
-use Rattle.cd_cells.specs.Kinds.{Kind}
+use Rattle.cd_cells.specs.Kinds.{Kind, IsGrouped}
 use Rattle.cd_cells.specs.Rule.{Ticketed, IsSpareList}
 
 -- a view, and the slots in hand
@@ -87,6 +87,7 @@ abbrev pub Arrives : {K T : Type 0} → (K → Kind T) → Tells K T
 Arrives kind st m n m' = (key : _) → m.0.key ≡ Some key → (d : ℕ) (c : _) → m.1 ≡ (d, Some c) ∷ rest m.1
     → (n ≡ 1 → m' ≡ homing m (meeting (arriving_last (kind key) m.0 d) Meeting.Arrival ((kind key).up d) 1))
     × (n ≢ 1 → m' ≡ homing m (meeting (arriving m.0 d) Meeting.Arrival ((kind key).up d) n))
+    × (n ≡ 1 → IsGrouped (kind key) d)
 
 -- the last arriver takes a member, and leaves its cell empty
 abbrev pub taking : {K : Type 0} → View K → ℕ → View K

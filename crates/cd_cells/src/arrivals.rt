@@ -4,6 +4,7 @@ ghost use Rattle.atomic_table.specs.Table.{rest};
 ghost use Rattle.cd_cells.specs.declared.view.Meeting.{Meeting};
 ghost use Rattle.cd_cells.specs.Places.Sort.{holds, lasts, owes, takes, clears, names};
 ghost use Rattle.cd_cells.specs.Listing.{often, find};
+ghost use Rattle.cd_cells.specs.Kinds.{IsGrouped};
 ghost use Rattle.cd_cells.specs.Views.{tally};
 ghost use Rattle.cd_cells.specs.Rule.{Ticketed};
 ghost use Rattle.cd_cells.specs.Steps.{homing, with_view, meeting, arriving, arriving_last, Taken, Collected, clearing, Resumed, Closed, ClosedBy};
@@ -62,6 +63,7 @@ fn arrive_word<K, T: Shape<K>>(
     ensures at { IsAt (T.kind table.now.key) table.now.key table.now.table_id seat.new.table_id seat.new.me.0 }
     ensures last { result ≡ 1 → seat.new.me ≡ homing seat.old.me (meeting (arriving_last (T.kind table.now.key) seat.old.me.0 node.0) Meeting.Arrival parent.0 1) }
     ensures more { result ≢ 1 → seat.new.me ≡ homing seat.old.me (meeting (arriving seat.old.me.0 node.0) Meeting.Arrival parent.0 result) }
+    ensures grouped { result ≡ 1 → IsGrouped (T.kind table.now.key) node.0 }
 {
     table.fetch_sub::<Arriving>(seat, 2 * parent.0 as usize + 2, 1)
 }
@@ -86,6 +88,7 @@ pub(crate) fn arrive<K, T: Shape<K>>(
     ensures at { IsAt (T.kind table.now.key) table.now.key table.now.table_id seat.new.table_id seat.new.me.0 }
     ensures last { result ≡ 1 → seat.new.me ≡ homing seat.old.me (meeting (arriving_last (T.kind table.now.key) seat.old.me.0 node.0) Meeting.Arrival parent.0 1) }
     ensures more { result ≢ 1 → seat.new.me ≡ homing seat.old.me (meeting (arriving seat.old.me.0 node.0) Meeting.Arrival parent.0 result) }
+    ensures grouped { result ≡ 1 → IsGrouped (T.kind table.now.key) node.0 }
 {
     table.exchange(seat, node.0 as usize, Some(cell));
     arrive_word(table, seat, node, parent)

@@ -14,15 +14,22 @@
 #![tactic(auto)]
 
 mod arrivals;
+mod cell_pass;
+mod hands;
+mod homing;
 pub mod laws;
 mod opening;
 mod passing;
 mod plays;
 mod rule;
+mod start;
 mod steps;
 #[cfg(test)]
 mod tests;
 mod view;
 
+pub use cell_pass::CellPass;
+pub use homing::Arrived;
 pub use rule::{Order, Shape};
-pub use view::{Ask, Cell, Meeting, Met, View};
+pub use start::Start;
+pub use view::{Cell, Meeting, Met, View};

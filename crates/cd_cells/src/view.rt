@@ -1,16 +1,7 @@
 // What a seat at the table of cells knows of its pass, and what a cell has at home.
 use atomic_table::Badge;
-use cd_tree::NodeId;
+use cd_core::Ask;
 use std::collections::LinkedList;
-
-/// What a domain is sent with, as plain data. No value of it is made.
-pub struct Ask {
-    pub node: NodeId,
-    pub words: LinkedList<u64>,
-    pub counts: LinkedList<u64>,
-    pub links: LinkedList<LinkedList<u64>>,
-    pub store: Option<u64>,
-}
 
 /// Which step met a word. The root's arrival has a word of its own.
 pub enum Meeting {

@@ -22,3 +22,6 @@ returns-clause-at g c =
     (λ ne. still_at (g.T.Shape.kind c.args.table.now.key) c.args.table.now.key c.args.table.now.table_id c.args.seat.now.table_id c.args.seat.now.me.0 c.requires.at
     c.fetch_sub.new.seat.table_id c.fetch_sub.ensures.0 c.fetch_sub.new.seat.me.0 (ap (λ m. m.0.key) (told.1 ne)) (ap (λ m. m.0.table) (told.1 ne)))
     (cases_eq c.fetch_sub.result 1)
+
+pub returns-clause-grouped : goal.returns-clause-grouped
+returns-clause-grouped g c = (c.fetch_sub.ensures.2 c.args.table.now.key c.requires.at.key_is c.args.node.0 c.requires.cell.0 c.requires.cell.1).2
