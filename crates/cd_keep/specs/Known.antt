@@ -1,5 +1,5 @@
 -- What each id means in layers of which the latest may grow.
-use Rattle.std.specs.Prelude.{◌≡◌, ℕ, ◌==◌, List, length, get_or, Option, if◌then◌else◌}
+use Rattle.std.specs.Prelude.{ℕ, ◌==◌, List, length, get_or, Option, if◌then◌else◌}
 use Rattle.cd_keep.specs.declared.keep_id.KeepId.{KeepId}
 use Rattle.cd_keep.specs.LayerModel.{LayerModel, empty_layer, piece_in}
 

@@ -9,8 +9,7 @@ use Rattle.cd_base.specs.Words.{in_range, in_ranges}
 use Rattle.cd_tree.specs.Operations.{length_of}
 use Rattle.cd_field.specs.FieldModel.{FieldModel, IsPresent, ArePresent, CanAbsorb, part_of, without, wrote_run, refilled_run, absorbed}
 use Rattle.cd_speed.specs.Timed.{AreWithin, HasRegions, IsInside, LieInRegions, Stays}
-use Rattle.cd_speed.proofs.Timed.{by_test, place_inside, five_regions}
-use Rattle.std.proofs.lemmas.Bool.Decides.{nat_tests}
+use Rattle.cd_speed.proofs.Timed.{by_test, place_inside}
 
 pub or_none : (b : Bool) → (b || false) ≡ b
 or_none true = refl

@@ -1,4 +1,4 @@
-use Rattle.std.proofs.Common.{◌≡◌, ◌<◌, ◌≤◌, arith}
+use Rattle.std.proofs.Common.{◌<◌, ◌≤◌, arith}
 use Rattle.cd_base.specs.declared.place.Place.{Place}
 use Rattle.cd_speed.specs.Timed.{HasRegions}
 use Rattle.cd_speed.proofs.Handed.{refilled_has}

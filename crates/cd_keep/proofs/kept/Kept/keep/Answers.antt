@@ -1,4 +1,4 @@
-use Rattle.std.proofs.Common.{◌≡◌, ℕ, List, Option, length, sym, ap, ◌∙◌}
+use Rattle.std.proofs.Common.{ℕ, List, Option, length, sym, ap, ◌∙◌}
 use Rattle.cd_keep.specs.declared.keep_id.KeepId.{KeepId}
 use Rattle.cd_keep.specs.LayerModel.{LayerModel}
 use Rattle.cd_keep.specs.Layers.{layers_of}
