@@ -6,7 +6,7 @@ mod Judging
 mod Retrying
 mod Rounds
 mod LastTries
-mod Grounds
+pub mod Grounds
 mod Beginnings
 mod Keeping
 mod Facts
@@ -31,13 +31,13 @@ mod GroupsGiven
 mod TakenBack
 mod AfterTaking
 mod AfterResuming
-mod FitsTaken
+pub mod FitsTaken
 mod TakenOn
 mod TakesBack
-mod MembersBack
+pub mod MembersBack
 mod Arrived
-mod Roots
-mod Outcomes
+pub mod Roots
+pub mod Outcomes
 mod FitsBefore
 mod Courses
 mod Ways
@@ -49,7 +49,7 @@ mod Losses
 mod AskedWords
 mod AskedCounts
 mod AskedLinks
-mod Viewed
+pub mod Viewed
 mod AskedMembers
 mod Asking
 mod RootStands
@@ -59,7 +59,7 @@ mod Counting
 mod Pairing
 mod MemberLinks
 mod AfterGroups
-mod Members
+pub mod Members
 mod KeptRoom
 mod LinksBelow
 mod Apartness

@@ -40,16 +40,16 @@ use Rattle.cd_core.proofs.Viewed.{foot_is}
 -- ---- the state that sent them
 
 -- it waits at a group, and these are the group's members as they were sent, from the machine and the pass of one moment
-record HasSent (plan : PlanModel) (s : StateModel) (states : List StateModel) : Type 0 where
-  domain : Domain
-  listed : slice_get plan.tree.domains s.node.0 ≡ Some domain
-  spare : ℕ
-  point : ℕ
-  stage : s.stage ≡ Waiting spare point
-  sending : StateModel
-  members : states ≡ all_sent plan sending (members_at domain point) sending.field sending.pass
-  field : s.field ≡ field_behind plan (members_at domain point) sending.field
-  pass : s.pass ≡ pass_behind plan (members_at domain point) sending.pass
+pub record HasSent (plan : PlanModel) (s : StateModel) (states : List StateModel) : Type 0 where
+  pub domain : Domain
+  pub listed : slice_get plan.tree.domains s.node.0 ≡ Some domain
+  pub spare : ℕ
+  pub point : ℕ
+  pub stage : s.stage ≡ Waiting spare point
+  pub sending : StateModel
+  pub members : states ≡ all_sent plan sending (members_at domain point) sending.field sending.pass
+  pub field : s.field ≡ field_behind plan (members_at domain point) sending.field
+  pub pass : s.pass ≡ pass_behind plan (members_at domain point) sending.pass
 
 by_verdict : (plan : PlanModel) (domain : Domain) (old new : StateModel) (keeps : List Keep) (q : PassModel) (begin : ℕ) (m : FieldModel)
     (verdict : Verdict) (states : List StateModel) → slice_get plan.tree.domains old.node.0 ≡ Some domain
@@ -71,7 +71,7 @@ by_verdict plan domain old new keeps q begin m (Waits spare point) states listed
 by_verdict plan domain old new keeps q begin m (Completes leak) states listed is answer = absurd answer
 by_verdict plan domain old new keeps q begin m (Escalates cause over) states listed is answer = absurd answer
 
-has_sent : (plan : PlanModel) (old new : StateModel) (states : List StateModel) → AdvancesBy plan old new (sends states) → HasSent plan new states
+pub has_sent : (plan : PlanModel) (old new : StateModel) (states : List StateModel) → AdvancesBy plan old new (sends states) → HasSent plan new states
 has_sent plan old new states a =
     by_verdict plan a.domain old new a.keeps a.pass a.judged.begin a.judged.field a.judged.verdict states a.is a.behind a.answer
 

@@ -1,5 +1,5 @@
 -- The outcome of a root that came back as its ending.
-use Rattle.std.proofs.Common.{◌≡◌, Option, Some, refl, ap, sym, subst, ◌∙◌}
+use Rattle.std.proofs.Common.{◌≡◌, List, Option, Some, ap, sym, subst, ◌∙◌}
 use Rattle.cd_base.specs.declared.place.Range.{Range}
 use Rattle.cd_base.specs.Words.{in_ranges}
 use Rattle.cd_tree.specs.declared.domain.NodeId.{NodeId}
