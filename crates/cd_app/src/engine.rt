@@ -9,6 +9,7 @@ ghost use Rattle.cd_app.specs.Running.{HasRun};
 
 use crate::need::whole_need;
 use cd_base::NoMemory;
+use cd_cells::run_alone;
 use cd_core::Outcome;
 use cd_cover::Plan;
 use cd_field::Field;
@@ -81,7 +82,7 @@ fn run_part<R: Threads + Wait + Sync, F: Field>(
     run_with(rt, alloc, workers, plan, part, pass)
 }
 
-// Runs it with a pass that has the room.
+// Runs it with a pass that has the room: by one worker through the cells, by more with threads for the members of a group.
 fn run_with<R: Threads + Wait + Sync, F: Field, P: Pass>(
     rt: &R,
     alloc: Global,
@@ -94,6 +95,9 @@ fn run_with<R: Threads + Wait + Sync, F: Field, P: Pass>(
     ensures ran { IfOk result (RanTo F.model plan.now (F.model part)) }
     ensures few { IfOk result (FewBegins (F.model part)) }
 {
+    if workers == 1 {
+        return run_alone(rt, alloc, plan, part, pass);
+    }
     run_root(rt, alloc, plan, part, pass, workers)
 }
 

@@ -18,7 +18,11 @@ pub mod Following
 pub mod Beginning
 pub mod Rows
 pub mod Sampling
+pub mod AloneLemmas
 pub mod Gathered
 pub mod HandLemmas
 pub mod PassLemmas
+pub mod RunLemmas
+pub mod Siblings
 pub mod StatesLawful
+pub mod TurnLemmas

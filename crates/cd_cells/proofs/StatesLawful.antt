@@ -167,52 +167,59 @@ of_ask plan faults loaded ask s a =
     let own : number_of a.domain ≡ s.node.0 = a.stands.domain in
     omega (arith, number, own)
 
-group_as : (plan : PlanModel) (s : StateModel) (w : WaitsIn plan s) → group_of plan s ≡ numbers_of w.ids
+pub group_as : (plan : PlanModel) (s : StateModel) (w : WaitsIn plan s) → group_of plan s ≡ numbers_of w.ids
 group_as plan s w =
     ap (λ (o : Option Domain). option_map_or (λ (domain : Domain). numbers_of (members_at domain (waits_at s.stage))) o []) w.listed
     ∙ ap numbers_of w.members
 
-stands_in : (plan : PlanModel) (s : StateModel) (w : WaitsIn plan s) (item : ℕ) (others : List NodeId) (k : ℕ) (id : NodeId)
+-- a group among the items of a domain
+pub record IsGroup (plan : PlanModel) (parent : NodeId) (ids : List NodeId) : Type 0 where
+  pub domain : Domain
+  pub listed : slice_get plan.tree.domains parent.0 ≡ Some domain
+  pub point : ℕ
+  pub group : slice_get domain.items point ≡ Some (Group ids)
+
+stands_in : (plan : PlanModel) (parent : NodeId) (ids : List NodeId) (w : IsGroup plan parent ids) (item : ℕ) (others : List NodeId) (k : ℕ) (id : NodeId)
     → slice_get w.domain.items item ≡ Some (Group others) → slice_get others k ≡ Some id
-    → StandsIn plan.tree.domains s.node id (record { item = item; member = k })
-stands_in plan s w item others k id there is =
-    some_and (slice_get plan.tree.domains s.node.0) (λ (above : Domain). StandsAt above.items id item k) w.domain w.listed
+    → StandsIn plan.tree.domains parent id (record { item = item; member = k })
+stands_in plan parent ids w item others k id there is =
+    some_and (slice_get plan.tree.domains parent.0) (λ (above : Domain). StandsAt above.items id item k) w.domain w.listed
     (some_and (slice_get w.domain.items item) (λ (it : Item). HasMember it k id) (Group others) there is)
 
--- a member of its group is a child, there once
-member_so : ChildrenStandOnce → MembersAreChildren → (plan : PlanModel) (s : StateModel) → IsPlan plan → (w : WaitsIn plan s) (m : ℕ)
-    → 0 < often m (numbers_of w.ids)
-    → (0 < m) × (m < length plan.tree.domains) × (parent_of plan m ≡ s.node.0) × (often m (numbers_of w.ids) ≡ 1) × (siblings_of plan m ≡ numbers_of w.ids)
-member_so once children plan s is_plan w m some =
+-- a member of it is a child, there once
+pub member_so : ChildrenStandOnce → MembersAreChildren → (plan : PlanModel) (parent : NodeId) (ids : List NodeId) → IsPlan plan
+    → (w : IsGroup plan parent ids) (m : ℕ) → 0 < often m (numbers_of ids)
+    → (0 < m) × (m < length plan.tree.domains) × (parent_of plan m ≡ parent.0) × (often m (numbers_of ids) ≡ 1) × (siblings_of plan m ≡ numbers_of ids)
+member_so once children plan parent ids is_plan w m some =
     let id : NodeId = record { 0 = m } in
-    let at : (k : ℕ) × (slice_get w.ids k ≡ Some id) = at_number m w.ids some in
-    let here : StandsIn plan.tree.domains s.node id (record { item = w.point; member = at.0 }) = stands_in plan s w w.point w.ids at.0 id w.group at.1 in
-    let child : (s.node.0 < m) × IsSomeAnd (slice_get plan.tree.domains m) (λ (d : Domain). d.parent ≡ Some s.node) =
-    children plan.tree is_plan.program s.node id (record { item = w.point; member = at.0 }) here in
-    let found : (d : Domain) × (slice_get plan.tree.domains m ≡ Some d) × (d.parent ≡ Some s.node) =
-    some_of (slice_get plan.tree.domains m) (λ (d : Domain). d.parent ≡ Some s.node) child.1 in
-    let up : parent_of plan m ≡ s.node.0 =
+    let at : (k : ℕ) × (slice_get ids k ≡ Some id) = at_number m ids some in
+    let here : StandsIn plan.tree.domains parent id (record { item = w.point; member = at.0 }) = stands_in plan parent ids w w.point ids at.0 id w.group at.1 in
+    let child : (parent.0 < m) × IsSomeAnd (slice_get plan.tree.domains m) (λ (d : Domain). d.parent ≡ Some parent) =
+    children plan.tree is_plan.program parent id (record { item = w.point; member = at.0 }) here in
+    let found : (d : Domain) × (slice_get plan.tree.domains m ≡ Some d) × (d.parent ≡ Some parent) =
+    some_of (slice_get plan.tree.domains m) (λ (d : Domain). d.parent ≡ Some parent) child.1 in
+    let up : parent_of plan m ≡ parent.0 =
     ap (λ (o : Option Domain). option_map_or (λ (d : Domain). option_map_or (λ (x : NodeId). x.0) d.parent 0) o 0) found.1
     ∙ ap (λ (o : Option NodeId). option_map_or (λ (x : NodeId). x.0) o 0) found.2 in
-    let alone : (i j : ℕ) → slice_get w.ids i ≡ Some id → slice_get w.ids j ≡ Some id → i ≡ j =
+    let alone : (i j : ℕ) → slice_get ids i ≡ Some id → slice_get ids j ≡ Some id → i ≡ j =
     λ i j one other. ap (λ (x : GroupPlace). x.member)
-    (once plan.tree is_plan.program id s.node s.node (record { item = w.point; member = i }) (record { item = w.point; member = j })
-    (stands_in plan s w w.point w.ids i id w.group one) (stands_in plan s w w.point w.ids j id w.group other)).1 in
+    (once plan.tree is_plan.program id parent parent (record { item = w.point; member = i }) (record { item = w.point; member = j })
+    (stands_in plan parent ids w w.point ids i id w.group one) (stands_in plan parent ids w w.point ids j id w.group other)).1 in
     let one_group : (j : ℕ) (others : List NodeId) → slice_get w.domain.items j ≡ Some (Group others) → among (numbers_of others) m ≡ true → j ≡ w.point =
     λ j others there has. (
     let k : (k : ℕ) × (slice_get others k ≡ Some id) = place_among others m has in
     ap (λ (x : GroupPlace). x.item)
-    (once plan.tree is_plan.program id s.node s.node (record { item = j; member = k.0 }) (record { item = w.point; member = at.0 })
-    (stands_in plan s w j others k.0 id there k.1) here).1
+    (once plan.tree is_plan.program id parent parent (record { item = j; member = k.0 }) (record { item = w.point; member = at.0 })
+    (stands_in plan parent ids w j others k.0 id there k.1) here).1
     ) in
-    let above : 0 < m = (let later : s.node.0 < m = child.0 in omega (arith, later)) in (
+    let above : 0 < m = (let later : parent.0 < m = child.0 in omega (arith, later)) in (
       above,
       slice_get_within plan.tree.domains m found.0 found.1,
       up,
-      once_there m w.ids at.0 at.1 alone,
+      once_there m ids at.0 at.1 alone,
       ap (λ (p : ℕ). option_map_or (λ (d : Domain). group_having d.items m) (slice_get plan.tree.domains p) []) up
           ∙ ap (λ (o : Option Domain). option_map_or (λ (d : Domain). group_having d.items m) o []) w.listed
-          ∙ group_is w.domain.items w.point w.ids m w.group (number_among w.ids at.0 id at.1) one_group,
+          ∙ group_is w.domain.items w.point ids m w.group (number_among ids at.0 id at.1) one_group,
     )
 
 -- a parent is a domain
@@ -264,7 +271,9 @@ lawful {T} model follows stand once children plan faults loaded is_plan = record
       let same : group_of plan s ≡ numbers_of w.ids = group_as plan s w in
       let Some : List ℕ → Type 0 = λ g. 0 < often m g in
       let Is : List ℕ → Type 0 = λ g. IsMember (states_of model plan faults loaded) a.node.0 g m in
-      let f = member_so once children plan s is_plan w m (subst Some same some) in
+      let f =
+      member_so once children plan s.node w.ids is_plan (record { domain = w.domain; listed = w.listed; point = w.point; group = w.group }) m
+      (subst Some same some) in
       subst Is (sym same) (record {
         above = f.0;
         below = f.1;

@@ -17,3 +17,4 @@ pub mod Hands
 pub mod Gathering
 pub mod Arrivals
 pub mod Passes
+pub mod Alone

@@ -1,20 +1,24 @@
 //! The cells in which domains rest, in one table that all passes share, over all interleavings of single steps.
 //!
 //! ```
-//! let (table, mut seat) = open::<K, T>(alloc, &key, count)?;
-//! send(&table.shared, &mut seat, root, state, list);
-//! if let Some(cell) = claim(&table.shared, &mut seat, root) {
-//!     // the cell is in hand: its state goes on, and rests at a group or arrives
-//!     arrive_root(&table.shared, &mut seat, count, cell);
+//! let mut cells = open_cells(alloc, &plan, &field)?;
+//! cells.post(NodeId(0), root);
+//! if let Some(mut state) = cells.claim(node) {
+//!     // the domain is in hand: its state goes on, and rests at a group or arrives
+//!     let step = state.advance(rt, alloc, &plan);
 //! }
+//! let ended = cells.close();
 //! ```
 //!
-//! What a state is is left open: `Shape` says what the rule has to know of it. The rule is `Ordered`, in `specs/Rule.antt`; it holds
-//! between any two steps. Each kind of step is a function of its own, in `steps`, `arrivals` and `passing`; `laws` has what follows.
+//! The rule is `Ordered`, in `specs/Rule.antt`; it holds between any two steps, and leaves open what a state is: `Shape` says what it has
+//! to know of it. Each kind of step is a function of its own, in `steps`, `arrivals` and `passing`; the calls of a worker are those of
+//! `CellPass`; `laws` has what follows. `start` puts in the states of domains, and `run_alone` runs a program by one worker.
 #![tactic(auto)]
 
+mod alone;
 mod arrivals;
 mod cell_pass;
+mod groups;
 mod hands;
 mod homing;
 pub mod laws;
@@ -28,8 +32,9 @@ mod steps;
 mod tests;
 mod view;
 
+pub use alone::run_alone;
 pub use cell_pass::CellPass;
 pub use homing::Arrived;
 pub use rule::{Order, Shape};
-pub use start::Start;
+pub use start::{Start, open_cells};
 pub use view::{Cell, Meeting, Met, View};
