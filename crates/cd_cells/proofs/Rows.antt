@@ -1,4 +1,4 @@
--- Several steps in a row: a domain is sent; a member is collected.
+-- Several steps in a row: a domain is sent. And what is in hand after a claim, and after the parent was taken.
 use Rattle.std.proofs.Common.{◌≡◌, ℕ, ◌<◌, true, ◌==◌, List, [], ◌∷◌, Option, None, Some, sym, refl, ap, subst, ◌∙◌, arith, eq-eqb}
 use Rattle.std.proofs.lemmas.Bool.{cond-true}
 use Rattle.atomic_table.specs.Seated.{TableId}
@@ -41,21 +41,6 @@ module _ {K : Type 0} (v : View K) (d : ℕ) where
   unfolding tally
   still_named h = h
 
-  pub taken_there : (a : Ask) → 0 < tally takes d (also_naming (taking v d) a)
-  unfolding tally
-  taken_there a = let o = often_here d v.takes in omega arith
-
-  pub named_there : (a : Ask) → a.node.0 ≡ d → 0 < tally names d (also_naming (taking v d) a)
-  unfolding tally
-  named_there a node =
-      let n = nodes_append d v.named (a ∷ []) in
-      let e : often d (a.node.0 ∷ []) ≡ often d (d ∷ []) = ap (λ (y : ℕ). often d (y ∷ [])) node in
-      let o = often_here d [] in
-      omega arith
-
-  pub collected : (a : Ask) → clearing (also_naming (taking v d) a) d ≡ collecting v d a
-  collected a = ap (λ (l : List ℕ). record (collecting v d a) { takes = l }) (cond-true (d == d) v.takes (d ∷ one_out d v.takes) (eq-eqb d d refl))
-
 -- the ticket of a domain goes with its state
 pub ticket_of : {K T : Type 0} (key : K) (v : View K) (d : ℕ) (t : TableId) (c : Cell K T) → 0 < tally names d v → v.key ≡ Some key → v.table ≡ name_of t
     → c.ticket.table_id ≡ t → c.ticket.views ≡ naming v.key v.table (find d v.named) ∷ []
@@ -93,12 +78,3 @@ module _ {K T : Type 0} (k : Kind T) (key : K) (m m' : Sat K T) (d : ℕ) (c : C
 
   pub resumed_in_hand : Resumed k key m d m' c None → IsInHand key m' d c
   resumed_in_hand r = in_hand_with r.ask (resuming m.0 d r.ask (k.group c.state)) r.now refl refl r.node r.ticket
-
--- ---- after a member was taken and its ticket joined
-
-pub joined_member : {K T : Type 0} (k : Kind T) (key : K) (m m' m'' : Sat K T) (d : ℕ) (c : Cell K T) (t : Taken k key m d m' c None)
-    → ((ask : Ask) → c.ticket.views ≡ naming (Some key) m'.0.table ask ∷ [] → m'' ≡ with_view m' (also_naming m'.0 ask))
-    → m'' ≡ handed m (also_naming (taking m.0 d) t.ask) d None
-joined_member {K} {T} k key m m' m'' d c t joined =
-    joined t.ask (t.ticket.views ∙ ap (λ (n : Sat K T). naming (Some key) n.0.table t.ask ∷ []) (sym t.now))
-    ∙ ap (λ (n : Sat K T). with_view n (also_naming n.0 t.ask)) t.now

@@ -177,13 +177,3 @@ also_naming v a = record v { named = v.named ++ a ∷ [] }
 -- turn, ticket and post
 abbrev pub sending : {K : Type 0} → View K → ℕ → View K
 sending v d = record v { rights = one_out d v.rights; named = ask_out d v.named; posts = d ∷ v.posts }
-
--- take a member, join its ticket, clear
-abbrev pub collecting : {K : Type 0} → View K → ℕ → Ask → View K
-collecting v d a = record v { owes = one_out d v.owes; clears = d ∷ v.clears; named = v.named ++ a ∷ [] }
-
-pub record Collected {K T : Type 0} (k : Kind T) (m : Sat K T) (d : ℕ) (m' : Sat K T) (state : T) : Type 0 where
-  pub ask : Ask
-  pub node : ask.node.0 ≡ d
-  pub now : m' ≡ with_view m (collecting m.0 d ask)
-  pub ended : k.Ended ask state

@@ -7,10 +7,9 @@ ghost use Rattle.cd_cells.specs.Listing.{often, find};
 ghost use Rattle.cd_cells.specs.Kinds.{IsGrouped};
 ghost use Rattle.cd_cells.specs.Views.{tally};
 ghost use Rattle.cd_cells.specs.Rule.{Ticketed};
-ghost use Rattle.cd_cells.specs.Steps.{homing, with_view, meeting, arriving, arriving_last, Taken, Collected, clearing, Resumed, Closed, ClosedBy};
+ghost use Rattle.cd_cells.specs.Steps.{homing, with_view, meeting, arriving, arriving_last, Taken, clearing, Resumed, Closed, ClosedBy};
 ghost use Rattle.cd_cells.specs.Seats.{IsAt};
 
-use crate::passing::join_ticket;
 use crate::plays::{Arriving, ArrivingAtRoot, Clearing, Closing, TakingMember, TakingParent};
 use crate::rule::{Place, Shape, Steps};
 use crate::view::Cell;
@@ -207,27 +206,4 @@ pub(crate) fn close<K, T: Shape<K>>(
     } else {
         None
     }
-}
-
-// Takes the state of a member that has arrived, when all have; the pass names it until it takes the parent.
-pub(crate) fn collect<K, T: Shape<K>>(
-    table: &Steps<K, T>,
-    seat: &mut Place<K, T>,
-    node: NodeId,
-) -> T
-    requires at { IsAt (T.kind table.now.key) table.now.key table.now.table_id seat.old.table_id seat.old.me.0 }
-    requires below { node.0 < (T.kind table.now.key).count }
-    requires owed { 0 < tally owes node.0 seat.old.me.0 }
-    ensures at { IsAt (T.kind table.now.key) table.now.key table.now.table_id seat.new.table_id seat.new.me.0 }
-    ensures taken { Collected (T.kind table.now.key) seat.old.me node.0 seat.new.me result }
-{
-    let cell = take(table, seat, node);
-    let Cell {
-        state,
-        ticket,
-        list: _,
-    } = cell;
-    join_ticket(table, seat, ticket);
-    clear(table, seat, node);
-    state
 }
