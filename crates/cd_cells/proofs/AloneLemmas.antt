@@ -15,8 +15,8 @@ use Rattle.cd_core.specs.Asks.{Answers}
 use Rattle.cd_core.specs.StateModel.{StateModel, state_model}
 use Rattle.cd_cells.specs.declared.cell_pass.CellPass.{CellPass}
 use Rattle.cd_cells.specs.declared.start.Start.{Start}
-use Rattle.cd_cells.specs.Alone.{AreDomains, EachReady, Sends, SendsStill, Works, asked_of, kind_of, plan_of, was_of}
-use Rattle.cd_cells.specs.Passes.{HasPosted, PassHas, PostsNext, WaitsHere, key_of}
+use Rattle.cd_cells.specs.Alone.{AreDomains, Sends, SendsStill, Works, asked_of, kind_of, plan_of, was_of}
+use Rattle.cd_cells.specs.Passes.{HasPosted, PostsNext, WaitsHere, key_of}
 use Rattle.cd_cells.specs.States.{IsReady, ask_of, group_of}
 use Rattle.cd_cells.proofs.StatesLawful.{of_ask}
 

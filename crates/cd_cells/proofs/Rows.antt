@@ -5,14 +5,14 @@ use Rattle.atomic_table.specs.Seated.{TableId}
 use Rattle.cd_cells.specs.Asks.{Ask}
 use Rattle.cd_cells.specs.declared.view.View.{View}
 use Rattle.cd_cells.specs.declared.view.Cell.{Cell}
-use Rattle.cd_cells.specs.Places.Sort.{turns, holds, takes, names}
-use Rattle.cd_cells.specs.Listing.{often, nodes, one_out, find, ask_out}
+use Rattle.cd_cells.specs.Places.Sort.{turns, holds, names}
+use Rattle.cd_cells.specs.Listing.{often, nodes, find, ask_out}
 use Rattle.cd_cells.specs.Views.{tally, name_of, naming}
 use Rattle.cd_cells.specs.Rule.{Ticketed}
-use Rattle.cd_cells.specs.Steps.{turning, posting, unnaming, sending, taking, clearing, also_naming, collecting, Sat, handed, with_view, Taken, claiming, Claimed, resuming, Resumed}
+use Rattle.cd_cells.specs.Steps.{turning, posting, unnaming, sending, Sat, claiming, Claimed, resuming, Resumed}
 use Rattle.cd_cells.specs.Seats.{IsInHand}
 use Rattle.cd_cells.specs.Kinds.{Kind}
-use Rattle.cd_cells.proofs.Listed.{often_here, nodes_append, find_node}
+use Rattle.cd_cells.proofs.Listed.{often_here, find_node}
 
 module _ {K : Type 0} (v : View K) (d : ℕ) where
   module _ (named : 0 < tally names d v) where

@@ -1,16 +1,14 @@
 -- A run of one worker alone, at its start and at its end.
-use Rattle.std.proofs.Common.{◌≡◌, ℕ, ◌≤◌, List, [], ◌∷◌, refl, ap, sym, subst, ◌∙◌}
+use Rattle.std.proofs.Common.{◌≡◌, ◌≤◌, [], ◌∷◌, refl, ap, sym, subst, ◌∙◌}
 use Rattle.cd_field.specs.FieldModel.{FieldModel}
 use Rattle.cd_keep.specs.PassModel.{PassModel}
 use Rattle.cd_cover.specs.Plans.{PlanModel, IsPlan}
 use Rattle.cd_core.specs.declared.ask.Ask.{Ask}
-use Rattle.cd_core.specs.declared.state.Ending.{Ending}
 use Rattle.cd_core.specs.declared.state.NodeState.{NodeState}
 use Rattle.cd_core.specs.declared.state.Outcome.{Outcome}
-use Rattle.cd_core.specs.declared.state.Stage.{Stage}
-use Rattle.cd_core.specs.declared.state.Stage.TheVariants.{Ready, Ended}
+use Rattle.cd_core.specs.declared.state.Stage.TheVariants.{Ready}
 use Rattle.cd_core.specs.Asks.{Answers, root_ask}
-use Rattle.cd_core.specs.Running.{EndedRootsRan, Ran, RanTo, StartedRootsAnswer}
+use Rattle.cd_core.specs.Running.{EndedRootsRan, RanTo, StartedRootsAnswer}
 use Rattle.cd_core.specs.StateLaws.{CanStart}
 use Rattle.cd_core.specs.StateModel.{StateModel, state_model}
 use Rattle.cd_core.specs.Steps.{IsOutcome, root_state}

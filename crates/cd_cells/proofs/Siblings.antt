@@ -1,5 +1,5 @@
 -- The group in which a domain is a member, as it is found: by its place among its parent's items.
-use Rattle.std.proofs.Common.{◌≡◌, ℕ, zero, suc, ◌+◌, ◌<◌, ◌≤◌, ◌==◌, Bool, if◌then◌else◌, lit≤, List, [], ◌∷◌, Option, None, Some, IsSomeAnd, length, get_or, slice_get, refl, ap, sym, subst, ◌∙◌, arith}
+use Rattle.std.proofs.Common.{◌≡◌, ℕ, zero, suc, ◌<◌, ◌≤◌, ◌==◌, Bool, if◌then◌else◌, lit≤, List, [], ◌∷◌, Option, None, Some, length, get_or, slice_get, refl, ap, sym, subst, ◌∙◌, arith}
 use Rattle.std.proofs.lemmas.Bool.{eq-eqb}
 use Rattle.std.specs.Option.{option_map_or}
 use Rattle.std.proofs.lemmas.List.{length-map}
@@ -11,7 +11,7 @@ use Rattle.cd_tree.specs.declared.domain.Item.{Item}
 use Rattle.cd_tree.specs.declared.domain.Item.TheVariants.{Run, Group}
 use Rattle.cd_tree.specs.declared.domain.NodeId.{NodeId}
 use Rattle.cd_tree.specs.declared.groups.GroupPlace.{GroupPlace}
-use Rattle.cd_tree.specs.Groups.{HasMember, IsPlaceOf, IsPlaceUnder, StandsAt, StandsIn}
+use Rattle.cd_tree.specs.Groups.{HasMember, IsPlaceOf, IsPlaceUnder, StandsAt}
 use Rattle.cd_tree.specs.SliceLaws.{ChildrenStandOnce, MembersAreChildren}
 use Rattle.cd_tree.specs.Limits.{members_limit}
 use Rattle.cd_tree.specs.Slices.{among}
@@ -21,7 +21,7 @@ use Rattle.cd_tree.proofs.View.{domain_fits, held}
 use Rattle.cd_cover.specs.Plans.{PlanModel, IsPlan}
 use Rattle.cd_cells.specs.Listing.{often, one_if}
 use Rattle.cd_cells.specs.States.{group_having, numbers_of, parent_of, siblings_of}
-use Rattle.cd_cells.proofs.StatesLawful.{IsGroup, member_so}
+use Rattle.cd_cells.proofs.StatesLawful.{member_so}
 
 never : {A : Type 0} {x : A} → ◌≡◌ {A = Option A} None (Some x) → ⊥
 never e = cc

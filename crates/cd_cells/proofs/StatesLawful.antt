@@ -1,5 +1,5 @@
 -- The states of a plan's domains are as the rule of the cells wants them: groups name members once, and asks are of the members.
-use Rattle.std.proofs.Common.{◌≡◌, ℕ, zero, suc, ◌+◌, ◌<◌, ◌==◌, Bool, true, false, List, [], ◌∷◌, Option, None, Some, IsSomeAnd, if◌then◌else◌, length, map, slice_get, inl, inr, refl, ap, subst, sym, ◌∙◌, arith}
+use Rattle.std.proofs.Common.{◌≡◌, ℕ, zero, suc, ◌+◌, ◌<◌, ◌==◌, Bool, true, List, [], ◌∷◌, Option, None, Some, IsSomeAnd, if◌then◌else◌, length, slice_get, inl, inr, refl, ap, subst, sym, ◌∙◌, arith}
 use Rattle.std.specs.Option.{option_map_or}
 use Rattle.std.proofs.lemmas.Bool.{eq-eqb, eqb-true, or_cases, or_left, or_right}
 use Rattle.std.proofs.lemmas.List.{length-map}
@@ -28,7 +28,6 @@ use Rattle.cd_core.specs.declared.state.Stage.TheVariants.{Ready, Waiting, Resum
 use Rattle.cd_core.specs.Advancing.{members_at}
 use Rattle.cd_core.specs.Asks.{Answers, member_ask}
 use Rattle.cd_core.specs.Fits.{FitsStage, FitsWaiting}
-use Rattle.cd_core.specs.Stands.{Stands}
 use Rattle.cd_core.specs.StateModel.{StateModel}
 use Rattle.cd_core.specs.Steps.{IsWaiting, waits_at}
 use Rattle.cd_core.proofs.FitsTaken.{FitsAs, fits_as, members_are}

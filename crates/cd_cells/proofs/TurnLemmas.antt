@@ -1,8 +1,7 @@
 -- A turn of one worker alone: the domain in hand comes to a group, or ends, or goes on with the members that have come back.
-use Rattle.std.proofs.Common.{◌≡◌, ℕ, zero, suc, ◌<◌, arith, MatchOption, List, [], ◌∷◌, Option, None, Some, IsSomeAnd, map, length, slice_get, refl, ap, sym, subst, ◌∙◌}
+use Rattle.std.proofs.Common.{◌≡◌, ℕ, zero, suc, ◌<◌, arith, MatchOption, List, [], ◌∷◌, Option, None, Some, map, slice_get, refl, ap, sym, subst, ◌∙◌}
 use Rattle.std.specs.Option.{option_map_or}
 use Rattle.cd_base.specs.Words.{Words}
-use Rattle.cd_base.proofs.ListLemmas.{some_and}
 use Rattle.cd_tree.specs.declared.document.Fault.{Fault}
 use Rattle.cd_tree.specs.declared.domain.Domain.{Domain}
 use Rattle.cd_tree.specs.declared.domain.NodeId.{NodeId}
@@ -19,7 +18,6 @@ use Rattle.cd_core.specs.declared.state.Stage.{Stage}
 use Rattle.cd_core.specs.declared.state.Stage.TheVariants.{Ready}
 use Rattle.cd_core.specs.Advancing.{all_sent, members_at}
 use Rattle.cd_core.specs.Asks.{Answers, EachAnswers, IsOfStore, foot_of, member_ask, task_of}
-use Rattle.cd_core.specs.Fits.{Fits}
 use Rattle.cd_core.specs.Resuming.{nodes_of}
 use Rattle.cd_core.specs.Returning.{AllEnded, ArrivedCanBeTaken, Stays}
 use Rattle.cd_core.specs.StateLaws.{TakesBack}
@@ -35,7 +33,7 @@ use Rattle.cd_cells.specs.declared.cell_pass.CellPass.{CellPass}
 use Rattle.cd_cells.specs.declared.start.Start.{Start}
 use Rattle.cd_cells.specs.Passes.{key_of}
 use Rattle.cd_cells.specs.Alone.{EachReadyFor, Ends, GoesOn, HasResumed, Sends, WaitsFor, Works, plan_of, was_of}
-use Rattle.cd_cells.specs.States.{HasEnded, IsReady, Rests, ask_of, group_of, numbers_of, parent_of, states_of}
+use Rattle.cd_cells.specs.States.{Rests, ask_of, group_of, numbers_of, parent_of, states_of}
 use Rattle.cd_cells.specs.Arrivals.{EndedEach}
 use Rattle.cd_cells.proofs.StatesLawful.{WaitsIn, ask_named, group_as, of_ask, waits_in}
 use Rattle.cd_cells.proofs.Siblings.{has_parent}

@@ -1,5 +1,5 @@
 -- One worker alone: what it has between its turns.
-use Rattle.std.specs.Prelude.{◌≡◌, ℕ, ◌<◌, List, [], ◌∷◌, All, map, length}
+use Rattle.std.specs.Prelude.{◌≡◌, ◌<◌, List, [], ◌∷◌, All, map, length}
 use Rattle.cd_base.specs.Words.{Words}
 use Rattle.cd_tree.specs.declared.document.Fault.{Fault}
 use Rattle.cd_tree.specs.declared.domain.NodeId.{NodeId}

@@ -1,4 +1,3 @@
-use Rattle.cd_core.specs.StateModel.{state_model}
 use Rattle.cd_cells.proofs.TurnLemmas.{ends_so, sends_so}
 use Rattle.cd_cells.proofs.alone.take_turn.Goals as goal
 

@@ -1,8 +1,7 @@
-use Rattle.std.proofs.Common.{rules, ◌≡◌, ◌<◌, ◌∙◌, List, [], None, Some, length, slice_get, sym, subst}
-use Rattle.cd_tree.specs.declared.domain.Domain.{Domain}
+use Rattle.std.proofs.Common.{rules, ◌≡◌, ◌<◌, List, None, Some, length, slice_get, sym, subst}
 use Rattle.cd_tree.specs.declared.domain.Item.{Item}
 use Rattle.cd_tree.specs.declared.domain.Item.TheVariants.{Run, Group}
-use Rattle.cd_tree.specs.Groups.{IsPlaceOf, StandsAt}
+use Rattle.cd_tree.specs.Groups.{IsPlaceOf}
 use Rattle.cd_cells.proofs.Siblings.{at_index, group_found, has_parent, item_within, member_there, place_so}
 use Rattle.cd_cells.proofs.groups.siblings_of.Goals as goal
 

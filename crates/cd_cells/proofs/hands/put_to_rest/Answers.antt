@@ -1,4 +1,4 @@
-use Rattle.std.proofs.Common.{◌≡◌, ℕ, [], ◌∷◌, ap, ◌∙◌}
+use Rattle.std.proofs.Common.{ℕ, [], ◌∷◌, ap, ◌∙◌}
 use Rattle.cd_cells.specs.Listing.{nodes}
 use Rattle.cd_cells.specs.Places.Sort.{holds}
 use Rattle.cd_cells.proofs.HandLemmas.{first_there, rests_so}
