@@ -11,7 +11,7 @@ use std::sync::Wait;
 use std::test::Fail;
 
 // A pass that answers Gone once, when so many shares were made. One that may, or has, keeps more than half of the room at
-// opening: so no two of them are of one opening, and it is not split.
+// opening: so no two of them are of one opening, and it is not split. The room at opening is the number of its store.
 #[derive(Drop)]
 pub(crate) struct Lapsing {
     inner: ArcPass,
@@ -25,7 +25,7 @@ pub(crate) struct Lapsing {
 impl Lapsing {
     // A pass with room for nine holds that answers Gone after so many shares.
     pub(crate) fn after(alloc: Global, shares: u32) -> Result<Lapsing, Fail>
-        ensures { IfOk result (λ pass. lapsing (model_of pass.inner) pass.answered ≡ opened 0 9) }
+        ensures { IfOk result (λ pass. record (lapsing (model_of pass.inner) pass.answered) { store = (model_of pass.inner).most } ≡ opened 9 9) }
     {
         Ok(Lapsing {
             inner: ArcPass::open(alloc, 9)?,
@@ -40,7 +40,7 @@ impl Pass for Lapsing {
     ghost use Rattle.cd_keep.specs.Arcs.{model_of, held_within_most, most_is_few, words_are_short};
     ghost use Rattle.cd_tries.specs.Board.{lapsing};
 
-    ghost model = { λ pass. lapsing (model_of pass.inner) pass.answered };
+    ghost model = { λ pass. record (lapsing (model_of pass.inner) pass.answered) { store = (model_of pass.inner).most } };
 
     ghost within = { λ pass. held_within_most pass.inner };
 
