@@ -18,7 +18,7 @@ pub mod Following
 pub mod Beginning
 pub mod Rows
 pub mod Sampling
-pub mod AloneLemmas
+pub mod SendLemmas
 pub mod Gathered
 pub mod HandLemmas
 pub mod PassLemmas

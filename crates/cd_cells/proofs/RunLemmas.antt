@@ -15,7 +15,7 @@ use Rattle.cd_core.specs.Steps.{IsOutcome, root_state}
 use Rattle.cd_core.proofs.Outcomes.{ran_by}
 use Rattle.cd_cells.specs.declared.cell_pass.CellPass.{CellPass}
 use Rattle.cd_cells.specs.declared.start.Start.{Start}
-use Rattle.cd_cells.specs.Alone.{RootEnded, Works, kind_of, plan_of, was_of}
+use Rattle.cd_cells.specs.Working.{RootEnded, Works, kind_of, plan_of, was_of}
 use Rattle.cd_cells.specs.Passes.{PostsNext, key_of}
 use Rattle.cd_cells.specs.States.{HasEnded, IsReady}
 use Rattle.cd_cells.proofs.StatesLawful.{of_ask}

@@ -32,7 +32,7 @@ use Rattle.cd_tree.proofs.View.{first_has_none}
 use Rattle.cd_cells.specs.declared.cell_pass.CellPass.{CellPass}
 use Rattle.cd_cells.specs.declared.start.Start.{Start}
 use Rattle.cd_cells.specs.Passes.{key_of}
-use Rattle.cd_cells.specs.Alone.{EachReadyFor, Ends, GoesOn, HasResumed, Sends, WaitsFor, Works, plan_of, was_of}
+use Rattle.cd_cells.specs.Working.{EachReadyFor, Ends, CanGoOn, HasResumed, Sends, WaitsFor, Works, plan_of, was_of}
 use Rattle.cd_cells.specs.States.{Rests, ask_of, group_of, numbers_of, parent_of, states_of}
 use Rattle.cd_cells.specs.Arrivals.{EndedEach}
 use Rattle.cd_cells.proofs.StatesLawful.{WaitsIn, ask_named, group_as, of_ask, waits_in}
@@ -195,7 +195,7 @@ module _ {F P : Type 0} (field : F → FieldModel) (pass : P → PassModel) (cel
       → ((t : Task) → Stands plan t (seen old) → Stands plan t (seen new) × EachAnswers plan t.faults t.loaded (seen new) (map seen children))
       → Stays (seen old) (seen new) → IsWaiting new.stage → Sends field pass cells new children
 
-  pub sends_so : (plan : PlanModel) (old new : NodeState F P) (children : List (NodeState F P)) → plan_of cells ≡ plan → GoesOn field pass cells old
+  pub sends_so : (plan : PlanModel) (old new : NodeState F P) (children : List (NodeState F P)) → plan_of cells ≡ plan → CanGoOn field pass cells old
       → SendsBy old new children plan
   sends_so plan old new children is goes = subst (SendsBy old new children) is (λ exact fit stands stays waits. (
       let faults : List Fault = (was_of field cells).script in
@@ -218,7 +218,7 @@ module _ {F P : Type 0} (field : F → FieldModel) (pass : P → PassModel) (cel
   EndsBy old new plan =
       ((t : Task) → Stands plan t (seen old) → Stands plan t (seen new)) → Stays (seen old) (seen new) → IsEnded new.stage → Ends field pass cells new
 
-  pub ends_so : (plan : PlanModel) (old new : NodeState F P) → plan_of cells ≡ plan → GoesOn field pass cells old → EndsBy old new plan
+  pub ends_so : (plan : PlanModel) (old new : NodeState F P) → plan_of cells ≡ plan → CanGoOn field pass cells old → EndsBy old new plan
   ends_so plan old new is goes = subst (EndsBy old new) is (λ stands stays ended. (
       let faults : List Fault = (was_of field cells).script in
       let loaded : Words = (was_of field cells).words in
@@ -245,7 +245,7 @@ module _ {F P : Type 0} (field : F → FieldModel) (pass : P → PassModel) (cel
 
   pub goes_so : (plan : PlanModel) (now : CellPass (Start F) (NodeState F P)) (ask : Ask) (above : NodeState F P) → plan_of cells ≡ plan → key_of now ≡ key_of cells
       → Works field pass now (ask ∷ []) [] → HasResumed field pass plan (was_of field cells).script (was_of field cells).words ask above
-      → GoesOn field pass now above
+      → CanGoOn field pass now above
   goes_so plan now ask above is key works r =
       let A : PlanModel → Type 0 = λ p. Answers p (was_of field cells).script (was_of field cells).words ask (seen above) in
       let B : Start F → Type 0 = λ k. Answers k.plan.value (field k.field.value).script (field k.field.value).words ask (seen above) in

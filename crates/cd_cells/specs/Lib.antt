@@ -17,4 +17,4 @@ pub mod Hands
 pub mod Gathering
 pub mod Arrivals
 pub mod Passes
-pub mod Alone
+pub mod Working

@@ -12,7 +12,8 @@
 //!
 //! The rule is `Ordered`, in `specs/Rule.antt`; it holds between any two steps, and leaves open what a state is: `Shape` says what it has
 //! to know of it. Each kind of step is a function of its own, in `steps`, `arrivals` and `passing`; the calls of a worker are those of
-//! `CellPass`; `laws` has what follows. `start` puts in the states of domains, and `run_alone` runs a program by one worker.
+//! `CellPass`; `laws` has what follows. `start` puts in the states of domains, `work` has the turns of a worker, `whole` the begin and the end of a
+//! run, and `run_alone` is a run by one worker.
 #![tactic(auto)]
 
 mod alone;
@@ -31,6 +32,8 @@ mod steps;
 #[cfg(test)]
 mod tests;
 mod view;
+mod whole;
+mod work;
 
 pub use alone::run_alone;
 pub use cell_pass::CellPass;
@@ -38,3 +41,5 @@ pub use homing::Arrived;
 pub use rule::{Order, Shape};
 pub use start::{Start, open_cells};
 pub use view::{Cell, Meeting, Met, View};
+pub use whole::{end_run, start_run};
+pub use work::{Hints, work_on};

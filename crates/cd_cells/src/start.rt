@@ -1,7 +1,7 @@
 // What a table of cells is opened for, and the states of domains as its rule has them.
 ghost use Rattle.std.specs.Prelude.{◌≡◌, [], ◌∷◌, IfOk};
 ghost use Rattle.cd_core.specs.Asks.{root_ask};
-ghost use Rattle.cd_cells.specs.Alone.{Works, plan_of};
+ghost use Rattle.cd_cells.specs.Working.{Works, plan_of};
 ghost use Rattle.cd_cells.specs.Passes.{key_of};
 
 use crate::cell_pass::CellPass;

@@ -3,12 +3,12 @@ use Rattle.cd_tree.specs.declared.domain.NodeId.{NodeId}
 use Rattle.cd_tree.specs.TreeModel.{TreeModel}
 use Rattle.cd_cover.specs.Plans.{PlanModel}
 use Rattle.cd_core.specs.StateModel.{state_model}
-use Rattle.cd_cells.specs.Alone.{plan_of, was_of}
+use Rattle.cd_cells.specs.Working.{plan_of, was_of}
 use Rattle.cd_cells.specs.States.{parent_of}
-use Rattle.cd_cells.proofs.AloneLemmas.{domain_below}
+use Rattle.cd_cells.proofs.SendLemmas.{domain_below}
 use Rattle.cd_cells.proofs.StatesLawful.{of_ask}
 use Rattle.cd_cells.proofs.TurnLemmas.{goes_so, parent_so, waits_so}
-use Rattle.cd_cells.proofs.alone.come_back.Goals as goal
+use Rattle.cd_cells.proofs.work.come_back.Goals as goal
 
 pub siblings_of-siblings-requires : goal.siblings_of-siblings-requires
 siblings_of-siblings-requires g c =
@@ -54,5 +54,5 @@ pub returns-in_ok-take_members-in-Last-clause-next : goal.returns-in_ok-take_mem
 returns-in_ok-take_members-in-Last-clause-next g c =
     let home = c.in-Last.ensures.home in
     let w = waits_so g.F.Field.model g.P.Pass.model c.args.cells.now c.args.plan.now home.ask c.in-Last.above c.in-Last.members.items c.requires.plan home.waits home.ended in
-    goes_so g.F.Field.model g.P.Pass.model c.args.cells.now c.args.plan.now c.arrive.new.self home.ask c.take_members.new.above c.requires.plan c.arrive.ensures.key home.now
+    goes_so g.F.Field.model g.P.Pass.model c.args.cells.now c.args.plan.now c.arrive.new.self home.ask c.take_members.new.above c.requires.plan c.arrive.ensures.same.key home.now
     (c.in_ok-take_members-in-Last.ensures (was_of g.F.Field.model c.args.cells.now).script (was_of g.F.Field.model c.args.cells.now).words home.ask w)

@@ -1,21 +1,25 @@
--- One worker alone: what it has between its turns.
-use Rattle.std.specs.Prelude.{◌≡◌, ◌<◌, List, [], ◌∷◌, All, map, length}
+-- A worker at the cells, with the states of domains: what it has between its turns.
+use Rattle.std.specs.Prelude.{◌≡◌, List, [], ◌∷◌, map}
 use Rattle.cd_base.specs.Words.{Words}
 use Rattle.cd_tree.specs.declared.document.Fault.{Fault}
-use Rattle.cd_tree.specs.declared.domain.NodeId.{NodeId}
 use Rattle.cd_field.specs.FieldModel.{FieldModel}
 use Rattle.cd_keep.specs.PassModel.{PassModel}
 use Rattle.cd_cover.specs.Plans.{PlanModel}
 use Rattle.cd_core.specs.declared.ask.Ask.{Ask}
 use Rattle.cd_core.specs.declared.state.NodeState.{NodeState}
 use Rattle.cd_core.specs.Asks.{Answers, root_ask}
+use Rattle.cd_core.specs.StateLaws.{CanStart}
 use Rattle.cd_core.specs.StateModel.{StateModel, state_model}
 use Rattle.cd_core.specs.Steps.{CanMove}
 use Rattle.cd_cells.specs.declared.cell_pass.CellPass.{CellPass}
 use Rattle.cd_cells.specs.declared.start.Start.{Start}
+use Rattle.cd_cells.specs.declared.view.Meeting.{Meeting}
+use Rattle.cd_cells.specs.declared.view.Met.{Met}
+use Rattle.cd_cells.specs.declared.work.Turn.{Turn}
+use Rattle.cd_cells.specs.declared.work.Turn.TheVariants.{GoesOn, Free, Over}
 use Rattle.cd_cells.specs.Arrivals.{EndedEach}
 use Rattle.cd_cells.specs.Kinds.{Kind}
-use Rattle.cd_cells.specs.Passes.{PassHas, key_of}
+use Rattle.cd_cells.specs.Passes.{PassHas, SameTable, key_of, view_of}
 use Rattle.cd_cells.specs.States.{HasEnded, IsReady, Rests, ask_of, group_of, states_of}
 
 -- the states of domains, as a table has them that was opened for this
@@ -34,8 +38,12 @@ plan_of cells = (key_of cells).plan.value
 abbrev pub Works : {F P : Type 0} → (F → FieldModel) → (P → PassModel) → CellPass (Start F) (NodeState F P) → List Ask → List Ask → Type 0
 Works field pass cells hand may = PassHas (kind_of field pass) cells hand may
 
+-- it has something in hand, or may post something, or neither: so it can stop
+abbrev pub StillWorks : {F P : Type 0} → (F → FieldModel) → (P → PassModel) → CellPass (Start F) (NodeState F P) → Type 0
+StillWorks field pass cells = (hand : List Ask) × (may : List Ask) × Works field pass cells hand may
+
 -- it has a domain in hand that can go on
-pub record GoesOn {F P : Type 0} (field : F → FieldModel) (pass : P → PassModel) (cells : CellPass (Start F) (NodeState F P)) (state : NodeState F P) : Type 0 where
+pub record CanGoOn {F P : Type 0} (field : F → FieldModel) (pass : P → PassModel) (cells : CellPass (Start F) (NodeState F P)) (state : NodeState F P) : Type 0 where
   pub ask : Ask
   pub works : Works field pass cells (ask ∷ []) []
   pub moves : CanMove state.stage
@@ -64,17 +72,12 @@ pub record Sends {F P : Type 0} (field : F → FieldModel) (pass : P → PassMod
   pub group : map (λ (child : NodeState F P). child.node.0) children ≡ group_of (plan_of cells) (state_model field pass state)
   pub ready : EachReady field pass cells (state_model field pass state) children
 
--- all of these are domains of the program
-abbrev pub AreDomains : PlanModel → List NodeId → Type 0
-AreDomains plan ids = All (λ (id : NodeId). id.0 < length plan.tree.domains) ids
-
 -- it has put a domain to rest, and these of its members are still to be sent
 pub record SendsStill {F P : Type 0} (field : F → FieldModel) (pass : P → PassModel) (first now : CellPass (Start F) (NodeState F P)) (s : StateModel)
-    (children : List (NodeState F P)) (ready : List NodeId) : Type 0 where
-  pub key : key_of now ≡ key_of first
+    (children : List (NodeState F P)) : Type 0 where
+  pub same : SameTable first now
   pub works : Works field pass now [] (asked_of (plan_of first) s children)
   pub each : EachReady field pass first s children
-  pub below : AreDomains (plan_of first) ready
 
 -- it has one in hand that has ended
 pub record Ends {F P : Type 0} (field : F → FieldModel) (pass : P → PassModel) (cells : CellPass (Start F) (NodeState F P)) (state : NodeState F P) : Type 0 where
@@ -98,3 +101,19 @@ pub record HasResumed {F P : Type 0} (field : F → FieldModel) (pass : P → Pa
 abbrev pub RootEnded : {F P : Type 0} → (F → FieldModel) → (P → PassModel) → CellPass (Start F) (NodeState F P) → NodeState F P → Type 0
 RootEnded field pass cells root =
     HasEnded (plan_of cells) (was_of field cells).script (was_of field cells).words (root_ask (plan_of cells) (was_of field cells).words) (state_model field pass root)
+
+-- its last step was the root's arrival
+abbrev pub RootIsHome : {F P : Type 0} → CellPass (Start F) (NodeState F P) → Type 0
+RootIsHome cells = (before : List Met) × ((view_of cells).met ≡ record { by = Meeting.RootArrival; cell = 0; word = 1 } ∷ before)
+
+-- what a turn comes to
+abbrev pub TurnsTo : {F P : Type 0} → (F → FieldModel) → (P → PassModel) → CellPass (Start F) (NodeState F P) → Turn F P → Type 0
+TurnsTo field pass cells (GoesOn state) = CanGoOn field pass cells state
+TurnsTo field pass cells Free = Works field pass cells [] []
+TurnsTo field pass cells Over = Works field pass cells [] [] × RootIsHome cells
+
+-- a table was opened for a plan, and for a machine on which its root can be started with some pass of copies
+pub record HasStarted {F : Type 0} (field : F → FieldModel) (plan : PlanModel) (start : Start F) : Type 0 where
+  pub plan_is : start.plan.value ≡ plan
+  pub pass : PassModel
+  pub can : CanStart plan (field start.field.value) pass

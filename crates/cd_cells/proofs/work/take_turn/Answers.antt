@@ -1,5 +1,6 @@
+use Rattle.std.proofs.Common.{[], ◌∷◌}
 use Rattle.cd_cells.proofs.TurnLemmas.{ends_so, sends_so}
-use Rattle.cd_cells.proofs.alone.take_turn.Goals as goal
+use Rattle.cd_cells.proofs.work.take_turn.Goals as goal
 
 pub send_members-requires-clause-sends : goal.send_members-requires-clause-sends
 send_members-requires-clause-sends g c κs within =
@@ -15,3 +16,6 @@ pub come_back-requires-in-Escalated-clause-ends : goal.come_back-requires-in-Esc
 come_back-requires-in-Escalated-clause-ends g c κs within =
     ends_so g.F.Field.model g.P.Pass.model c.args.cells.now c.args.plan.now c.args.state c.advance.new.self c.requires.plan c.requires.goes
     c.in-Escalated.ensures.stands c.in-Escalated.ensures.stays c.in-Escalated.ensures.onward
+
+pub returns-in-NoMemory-clause-still : goal.returns-in-NoMemory-clause-still
+returns-in-NoMemory-clause-still g c = (c.requires.goes.ask ∷ [], [], c.requires.goes.works)

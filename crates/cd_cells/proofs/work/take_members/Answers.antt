@@ -7,7 +7,7 @@ use Rattle.cd_core.specs.Resuming.{nodes_of}
 use Rattle.cd_core.specs.StateModel.{state_model}
 use Rattle.cd_core.specs.Steps.{waits_at}
 use Rattle.cd_cells.proofs.TurnLemmas.{answers_on, members_answer, taken_back}
-use Rattle.cd_cells.proofs.alone.take_members.Goals as goal
+use Rattle.cd_cells.proofs.work.take_members.Goals as goal
 
 pub resume-requires-clause-members : goal.resume-requires-clause-members
 resume-requires-clause-members g c κs within =
