@@ -1,0 +1,2 @@
+-- What an engine counts.
+pub mod Counts
