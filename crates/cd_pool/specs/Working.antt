@@ -1,5 +1,5 @@
 -- What a worker is given, and what it hands back.
-use Rattle.std.specs.Prelude.{[], List, All, IfOk, Result}
+use Rattle.std.specs.Prelude.{List, [], ◌∷◌, All, Result, Ok, Err, IfOk}
 use Rattle.cd_field.specs.FieldModel.{FieldModel}
 use Rattle.cd_keep.specs.PassModel.{PassModel}
 use Rattle.cd_pool.specs.declared.worker.Job.{Job}
@@ -21,6 +21,12 @@ HandsBack field pass first back = IfOk back (IsFree field pass first)
 -- so do all of them
 abbrev pub HandBack : {F P E : Type 0} → (F → FieldModel) → (P → PassModel) → CellPass (Start F) (NodeState F P) → List (Result (CellPass (Start F) (NodeState F P)) E) → Type 0
 HandBack field pass first backs = All (HandsBack field pass first) backs
+
+-- one of them met want of memory
+abbrev pub MetWant : {A E : Type 0} → List (Result A E) → Type 0
+MetWant [] = ⊥
+MetWant (Ok pass ∷ backs) = MetWant backs
+MetWant (Err want ∷ backs) = Unit {0}
 
 -- all jobs are at one table, and have nothing in hand
 abbrev pub AreFree : {F P : Type 0} → (F → FieldModel) → (P → PassModel) → CellPass (Start F) (NodeState F P) → List (Job F P) → Type 0

@@ -1,10 +1,10 @@
 //! A run by stealing workers.
-ghost use Rattle.std.specs.Prelude.{◌≡◌, ◌<◌, ◌≤◌, [], IfOk, OnOk, All};
+ghost use Rattle.std.specs.Prelude.{◌≡◌, ◌<◌, ◌≤◌, [], IfOk, OnOk, MatchResult};
 ghost use Rattle.cd_core.specs.Running.{FewBegins, RanTo};
 ghost use Rattle.cd_core.specs.StateLaws.{CanStart};
 ghost use Rattle.cd_cells.specs.Passes.{SameTable};
 ghost use Rattle.cd_cells.specs.Working.{Works, plan_of};
-ghost use Rattle.cd_pool.specs.Working.{AreFree, HandsBack, HandBack, IsFree};
+ghost use Rattle.cd_pool.specs.Working.{AreFree, HandsBack, HandBack, IsFree, MetWant};
 
 use crate::crew::crew_for;
 use crate::deques::{deques_for, stealers_of};
@@ -110,14 +110,15 @@ fn jobs_for<'a, 's, F: Field, P: Pass>(
     Ok(jobs)
 }
 
-// Takes the workers' passes back.
+// Takes the workers' passes back. Memory was wanting exactly where one of them met want of memory.
 fn gather<'a, F: Field, P: Pass>(
     cells: &mut Cells<'a, F, P>,
     backs: Vec<Result<Cells<'a, F, P>, NoMemory>>,
 ) -> Result<(), NoMemory>
     requires works { Works F.model P.model cells.old [] [] }
     requires backs { HandBack F.model P.model cells.old backs.items }
-    ensures { OnOk result (IsFree F.model P.model cells.old cells.new) }
+    ensures here { OnOk result (IsFree F.model P.model cells.old cells.new) }
+    ensures want { MatchResult result (λ _. MetWant backs.entry.items → ⊥) (λ _. MetWant backs.entry.items) }
 {
     for back in backs {
         cells.join(back?);
