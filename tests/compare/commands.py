@@ -8,7 +8,7 @@ has built it if none is given. COUNT documents are made at random, two of three 
 one refusal each, have statements put in whose parts are right or wrong, are small programs for the checks, or have one domain;
 four times as many are nested programs with scripts; the examples and documents at each limit and at each choice of the language
 are added, and with --large those that take long. Each goes through `check`, and every other one through `read`, the others through `lift`;
-canonical texts are read again. Each that is accepted is run twice, with its record and without, by 1 to 8 workers in turn; each
+canonical texts are read again. Each that is accepted is run twice, with its record and without, by 1 to 64 workers in turn; each
 that is refused, once. Then come command lines and ends that fail. Statuses and bytes have to agree.
 
 What accepted documents have and what their runs show is counted; where all is compared with the usual numbers, each thing has to
@@ -43,8 +43,8 @@ SECONDS = 120
 SHOWN = 60
 # The usual number of random documents.
 COUNT = 800
-# The most workers that a run is given.
-WORKERS = 8
+# The numbers of workers that runs are given in turn.
+WORKERS = (1, 2, 3, 4, 8, 5, 64)
 # What is counted of what accepted documents show.
 FOUND = 'accepted documents with'
 # The large documents that are quick all the same.
@@ -153,9 +153,9 @@ class Found:
 
 
 def runs(turn, is_accepted):
-    """The command lines of a document's runs: workers 1 to 8 in turn, and others for the run without its record."""
-    with_record = ['run', '--record', '--workers', str(1 + turn % WORKERS)]
-    without = [f'--workers={1 + turn * 3 % WORKERS}', 'run'] if turn % WORKERS else ['run']
+    """The command lines of a document's runs: some numbers of workers in turn, and others for the run without its record."""
+    with_record = ['run', '--record', '--workers', str(WORKERS[turn % len(WORKERS)])]
+    without = [f'--workers={WORKERS[turn * 3 % len(WORKERS)]}', 'run'] if turn % len(WORKERS) else ['run']
     return [with_record, without] if is_accepted else [[with_record, without][turn % 2]]
 
 
