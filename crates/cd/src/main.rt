@@ -1,4 +1,5 @@
-//! The program `cd`: it hands its words, standard input and standard output to `run_cd`, and ends with the status.
+//! The program `cd`: it hands its words, standard input and standard output to `run_cd`, with a machine and an engine, and ends with
+//! the status.
 //!
 //!     $ bin/cd run < examples/leak.cd
 //!     committed
@@ -12,6 +13,7 @@ use cd_app::run_cd;
 use cd_base::{NoMemory, StdSink, StdSource, Text};
 use cd_command::Words;
 use cd_field::ScriptField;
+use cd_pool::{OpenGate, PoolEngine};
 use std::alloc::{AllocError, Global};
 use std::process::ExitCode;
 use std::{env, io};
@@ -38,7 +40,16 @@ fn main(rt: HostRuntime) -> ExitCode {
     let mut source = StdSource::new(rt.reader());
     let mut sink = StdSink::new(io::writer(&rt));
     let mut machine = ScriptField::empty(alloc);
-    let status = run_cd(&rt, alloc, &words, &mut source, &mut sink, &mut machine);
+    let mut engine = PoolEngine::new(&OpenGate);
+    let status = run_cd(
+        &rt,
+        alloc,
+        &words,
+        &mut source,
+        &mut sink,
+        &mut machine,
+        &mut engine,
+    );
     ExitCode::from(status.code())
 }
 

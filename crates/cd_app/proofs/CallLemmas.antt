@@ -1,5 +1,5 @@
 -- From the parts of a call to the outcome that it comes to.
-use Rattle.std.proofs.Common.{◌≡◌, ℕ, Bool, List, [], Option, None, Some, Result, Ok, Err, refl, ap, sym, subst, ◌∙◌, inl, inr, arith}
+use Rattle.std.proofs.Common.{◌≡◌, ◌⊎◌, ℕ, Bool, List, [], sum, Option, None, Some, Result, Ok, Err, refl, ap, sym, subst, ◌∙◌, inl, inr, arith}
 use Rattle.std.specs.Prelude.{option_map, option_and_then}
 use Rattle.std.specs.Io.KnownBytes.{Consumes}
 use Rattle.cd_base.specs.Ends.{SourceModel, SinkModel, TookAtMost}
@@ -10,13 +10,15 @@ use Rattle.cd_check.specs.Checking.{FirstRefusalOf, Passes}
 use Rattle.cd_field.specs.FieldModel.{FieldModel}
 use Rattle.cd_command.specs.declared.command.Command.{Command}
 use Rattle.cd_command.specs.CommandLine.{command_in}
+use Rattle.cd_reading.specs.Through.{begins_in}
+use Rattle.cd_pool.specs.Counts.{counted}
 use Rattle.cd_app.specs.declared.receive.Stop.{Stop}
 use Rattle.cd_app.specs.declared.receive.Stop.TheVariants as stop
 use Rattle.cd_app.specs.declared.status.Status.TheVariants.{NoMemory}
-use Rattle.cd_app.specs.Running.{HoldsRun}
+use Rattle.cd_app.specs.Running.{HoldsRun, IsCounted}
 use Rattle.cd_app.specs.Deeds.{Intake, one_document, Accepted, Deed, makes, says, runs, deed_of, deed_in, intake_of, intake_in}
 use Rattle.cd_app.specs.Outcomes.{Input, whole, too_much, unread, Gave, AcceptsBytes, Outcome, no_command, made, not_read, refused, said, ran, ComesOfInput, ComesOf}
-use Rattle.cd_app.specs.Calls.{Call, call_of, Comes, Ends, TookWithin, Meets}
+use Rattle.cd_app.specs.Calls.{Call, call_of, Comes, NothingRan, Ends, TookWithin, Meets}
 use Rattle.cd_app.specs.Parts.{IsRead, IsNone, Receives, ReadsBytes}
 
 -- ---- what the words ask for
@@ -91,7 +93,7 @@ of_input call input outcome takes gave anyhow = go (deed_in call.words) (takes_o
         (input, gave, anyhow (λ accepted. ran with_record accepted))
 
 -- there is no document
-pub none_refused : (call : Call) (refusal : Refusal) → intake_in call.words ≡ Some one_document → call.machine_now ≡ call.machine_was
+pub none_refused : (call : Call) (refusal : Refusal) → intake_in call.words ≡ Some one_document → NothingRan call
     → IsNone one_document call.source_was call.source_now (stop.Refused refusal) → Ends call (refused None refusal)
 none_refused call refusal takes now (inl long) =
     (of_input call too_much (refused None refusal) takes long.0 (λ next. ap (refused None) long.1), now)
@@ -99,13 +101,13 @@ none_refused call refusal takes now (inr (bytes, gave, reads)) =
     (of_input call (whole bytes) (refused None refusal) takes gave (λ next. inl (None, refusal, reads, refl)), now)
 
 -- the source failed
-pub fault_ends : (call : Call) → intake_in call.words ≡ Some one_document → call.machine_now ≡ call.machine_was
+pub fault_ends : (call : Call) → intake_in call.words ≡ Some one_document → NothingRan call
     → IsNone one_document call.source_was call.source_now stop.ReadFault → Ends call not_read
 fault_ends call takes now gave = (of_input call unread not_read takes gave (λ next. refl), now)
 
 -- a document is refused
 pub document_refused : (call : Call) (document : Document) (refusal : Refusal) → intake_in call.words ≡ Some one_document
-    → call.machine_now ≡ call.machine_was → IsRead one_document call.source_was call.source_now document
+    → NothingRan call → IsRead one_document call.source_was call.source_now document
     → FirstRefusalOf one_document.questions document (Some refusal) → Ends call (refused (Some document) refusal)
 document_refused call document refusal takes now is first = (
   of_input call (whole is.bytes) (refused (Some document) refusal) takes is.gave (λ next. inl (Some document, refusal, (is.read, first), refl)),
@@ -125,7 +127,7 @@ accepts {old} {new} document script is passes = record { read = is.read; checked
 -- something is said of it
 pub said_ends : (call : Call) (text_of : Accepted → List ℕ) (document : Document) (script : List Fault)
     → deed_in call.words ≡ Some (says one_document text_of) → (is : IsRead one_document call.source_was call.source_now document)
-    → Passes document script → call.machine_now ≡ call.machine_was → Ends call (said (text_of (input_of document script is)))
+    → Passes document script → NothingRan call → Ends call (said (text_of (input_of document script is)))
 said_ends call text_of document script asked is passes now = (
   comes_by call (Some (says one_document text_of)) (said (text_of (input_of document script is))) asked
       (whole is.bytes, is.gave, inr (input_of document script is, refl, accepts document script is passes, refl)),
@@ -144,17 +146,33 @@ run_comes call with_record document script asked is passes =
 pub ran_ends : (call : Call) (with_record : Bool) (document : Document) (script : List Fault)
     → deed_in call.words ≡ Some (runs one_document with_record) → (is : IsRead one_document call.source_was call.source_now document)
     → Passes document script → HoldsRun document script call.machine_now
+    → IsCounted document script call.engine_was call.engine_now
     → Ends call (ran with_record (input_of document script is))
-ran_ends call with_record document script asked is passes holds =
-    (run_comes call with_record document script asked is passes, holds)
+ran_ends call with_record document script asked is passes holds counts =
+    (run_comes call with_record document script asked is passes, (holds, counts))
+
+-- ---- the engine's count
+
+-- a run that was counted from one count to another, where these are the call's
+pub counted_in_call : (document : Document) (script : List Fault) (was now one other : ℕ) → one ≡ was → other ≡ now
+    → IsCounted document script was now → IsCounted document script one other
+counted_in_call document script was now one other first second counts =
+    second ∙ counts ∙ ap (λ (n : ℕ). counted n (sum (begins_in document.tree script))) (sym first)
+
+-- the same where it was counted or not
+pub counted_or_not : (document : Document) (script : List Fault) (was now one other : ℕ) → one ≡ was → other ≡ now
+    → (now ≡ was) ⊎ IsCounted document script was now → (other ≡ one) ⊎ IsCounted document script one other
+counted_or_not document script was now one other first second (inl same) = inl (second ∙ same ∙ sym first)
+counted_or_not document script was now one other first second (inr counts) =
+    inr (counted_in_call document script was now one other first second counts)
 
 -- ---- outcomes without an input
 
-pub usage_ends : (call : Call) → deed_in call.words ≡ None → call.source_now ≡ call.source_was → call.machine_now ≡ call.machine_was → Ends call no_command
+pub usage_ends : (call : Call) → deed_in call.words ≡ None → call.source_now ≡ call.source_was → NothingRan call → Ends call no_command
 usage_ends call asked left now = (comes_by call None no_command asked refl, (left, now))
 
 pub made_ends : (call : Call) (text : List ℕ) → deed_in call.words ≡ Some (makes text) → call.source_now ≡ call.source_was
-    → call.machine_now ≡ call.machine_was → Ends call (made text)
+    → NothingRan call → Ends call (made text)
 made_ends call text asked left now = (comes_by call (Some (makes text)) (made text) asked refl, (left, now))
 
 -- ---- want of memory
@@ -168,16 +186,16 @@ took_nothing None m = refl
 took_nothing (Some intake) m = ([], (nothing_consumed m.left, omega arith), omega arith)
 
 -- before anything was read
-pub no_memory_at_once : (words : List (List ℕ)) (source : SourceModel) (m : FieldModel) (sink : SinkModel)
-    → Meets (call_of words source source m m) sink sink NoMemory
-no_memory_at_once words source m sink = inl ((took_nothing (intake_in words) source, inl refl), refl)
+pub no_memory_at_once : (words : List (List ℕ)) (source : SourceModel) (m : FieldModel) (count : ℕ) (sink : SinkModel)
+    → Meets (call_of words source source m m count count) sink sink NoMemory
+no_memory_at_once words source m count sink = inl ((took_nothing (intake_in words) source, inl (refl, refl)), refl)
 
 took_within : (call : Call) → intake_in call.words ≡ Some one_document → TookAtMost call.source_was call.source_now one_document.limit
     → TookWithin (intake_in call.words) call.source_was call.source_now
 took_within call takes took = subst (λ (i : Option Intake). TookWithin i call.source_was call.source_now) (sym takes) took
 
--- before the machine was touched
-pub no_memory_yet : (call : Call) (sink : SinkModel) → intake_in call.words ≡ Some one_document → call.machine_now ≡ call.machine_was
+-- before the machine and the engine were touched
+pub no_memory_yet : (call : Call) (sink : SinkModel) → intake_in call.words ≡ Some one_document → NothingRan call
     → TookAtMost call.source_was call.source_now one_document.limit → Meets call sink sink NoMemory
 no_memory_yet call sink takes now took = inl ((took_within call takes took, inl now), refl)
 
@@ -185,19 +203,20 @@ took_of : (old new : SourceModel) (document : Document) → IsRead one_document 
 took_of old new document is = (is.bytes, is.gave.0, is.gave.2)
 
 pub no_memory_for : (call : Call) (sink : SinkModel) (document : Document) → intake_in call.words ≡ Some one_document
-    → call.machine_now ≡ call.machine_was → IsRead one_document call.source_was call.source_now document → Meets call sink sink NoMemory
+    → NothingRan call → IsRead one_document call.source_was call.source_now document → Meets call sink sink NoMemory
 no_memory_for call sink document takes now is = no_memory_yet call sink takes now (took_of call.source_was call.source_now document is)
 
 -- in a run
 pub no_memory_in_run : (call : Call) (sink : SinkModel) (with_record : Bool) (document : Document) (script : List Fault)
     → deed_in call.words ≡ Some (runs one_document with_record) → IsRead one_document call.source_was call.source_now document
-    → Passes document script → Meets call sink sink NoMemory
-no_memory_in_run call sink with_record document script asked is passes =
+    → Passes document script
+    → (call.engine_now ≡ call.engine_was) ⊎ IsCounted document script call.engine_was call.engine_now → Meets call sink sink NoMemory
+no_memory_in_run call sink with_record document script asked is passes counts =
     let takes : intake_in call.words ≡ Some one_document = takes_by call.words (runs one_document with_record) one_document asked refl in
     inl (
       (
         took_within call takes (took_of call.source_was call.source_now document is),
-        inr (with_record, input_of document script is, run_comes call with_record document script asked is passes),
+        inr (with_record, input_of document script is, run_comes call with_record document script asked is passes, counts),
       ),
       refl,
     )

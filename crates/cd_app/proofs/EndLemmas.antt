@@ -1,5 +1,5 @@
 -- A run's end: the root's part is taken back, and the machine holds the run of the document.
-use Rattle.std.proofs.Common.{◌≡◌, ℕ, suc, ◌+◌, ◌<◌, ◌≤◌, Bool, true, false, ◌||◌, cond, List, Option, None, Some, IsSomeAnd, Contains, All, get_or, length, map, refl, ap, subst, sym, ◌∙◌, inl, inr, arith}
+use Rattle.std.proofs.Common.{◌≡◌, ℕ, suc, ◌≤◌, Bool, true, false, ◌||◌, cond, List, Option, None, Some, IsSomeAnd, Contains, All, get_or, length, map, sum, refl, ap, subst, sym, ◌∙◌, inl, inr, arith}
 use Rattle.std.proofs.Math.Path.{fun_ext}
 use Rattle.cd_base.proofs.BoolLemmas.{by_test}
 use Rattle.std.proofs.lemmas.List.{length-map}
@@ -12,25 +12,23 @@ use Rattle.cd_tree.specs.declared.document.Document.{Document}
 use Rattle.cd_tree.specs.declared.document.Region.{Region}
 use Rattle.cd_tree.specs.declared.document.Fault.{Fault}
 use Rattle.cd_tree.specs.declared.event.Cause.{Cause}
-use Rattle.cd_tree.specs.Domains.{Node, node, root_of, number_of, node_of, node_numbers, numbers_from}
+use Rattle.cd_tree.specs.Domains.{Node, node, root_of, number_of, node_numbers, numbers_from}
 use Rattle.cd_tree.specs.KindSets.{no_kinds}
 use Rattle.cd_tree.specs.Laws.{FoundInPrograms, EndsClean}
-use Rattle.cd_tree.specs.Legal.{Legal, entry_at}
 use Rattle.cd_tree.specs.Limits.{faults_limit}
 use Rattle.cd_tree.specs.Locality.{SameWords, ShapesFitInPrograms, DomainsActLocally, AllShapesFit}
 use Rattle.cd_tree.specs.Meaning.{initial, node_reads, node_writes, node_reach, node_meaning, written}
 use Rattle.cd_tree.specs.Reading.{NodeEnd, Done as Completed, Escalated as GoneUp}
-use Rattle.cd_tree.specs.Record.{reading, record_of, cause_of}
+use Rattle.cd_tree.specs.Record.{reading, cause_of}
 use Rattle.cd_tree.specs.Scripts.{IsAccepted}
 use Rattle.cd_tree.specs.TreeModel.{TreeModel}
 use Rattle.cd_tree.proofs.EachDomain.{root_there, number_there}
 use Rattle.cd_tree.proofs.Walk.{length-numbers_from}
-use Rattle.cd_field.specs.FieldModel.{FieldModel, CanAbsorb, nowhere, loaded, part_of, without, absorbed}
+use Rattle.cd_field.specs.FieldModel.{FieldModel, CanAbsorb, loaded, part_of, without, absorbed}
 use Rattle.cd_cover.specs.Links.{link_of}
-use Rattle.cd_cover.specs.Outer.{outer_references}
 use Rattle.cd_cover.specs.OuterLaws.{EntriesAreRead, IsOuter, LiesAbove, OuterAreThese}
 use Rattle.cd_cover.specs.Plans.{PlanModel, IsPlan}
-use Rattle.cd_reading.specs.Through.{begins_in, cause_in}
+use Rattle.cd_reading.specs.Through.{begins_in}
 use Rattle.cd_core.specs.declared.state.Ending.{Ending}
 use Rattle.cd_core.specs.declared.state.Ending.TheVariants.{Done, Escalated}
 use Rattle.cd_core.specs.declared.state.Outcome.{Outcome}
@@ -39,10 +37,11 @@ use Rattle.cd_core.specs.Stands.{Sound, ending_of}
 use Rattle.cd_core.specs.Steps.{root_task}
 use Rattle.cd_core.specs.Tasks.{LinksAgree}
 use Rattle.cd_core.specs.Running.{FewBegins, Ran, RanTo}
+use Rattle.cd_pool.specs.Counts.{begins_of, counted}
 use Rattle.cd_report.specs.Reports.{last_words}
 use Rattle.cd_app.specs.Parts.{IsPassed}
 use Rattle.cd_app.specs.Parting.{IsCarved, CanTakeBack, TookBack}
-use Rattle.cd_app.specs.Running.{HoldsRun, HasRun}
+use Rattle.cd_app.specs.Running.{HoldsRun, HasRun, IsCounted}
 use Rattle.cd_app.proofs.LegalLemmas.{AgreeAtRoot, legal_with}
 use Rattle.cd_app.proofs.PartLemmas.{root_id, part_word, in_part, reads_reach, writes_reach}
 use Rattle.cd_app.proofs.RunLemmas.{sum_fits, found_length}
@@ -241,12 +240,17 @@ holds_run l document plan script reads writes now begins cause run accepted =
       present = fun_ext (none_lost plan writes now.carved run.writing carves);
     }
 
+-- the counts are those of the reading, in preorder
+counts_are : (document : Document) (plan : PlanModel) (script : List Fault) (reads writes : List Range) (now : FieldModel)
+    (begins : List ℕ) (cause : Option Cause) → Written document plan script reads writes now begins cause → begins ≡ begins_in plan.tree script
+counts_are document plan script reads writes now begins cause run =
+    run.ended.ran.counts ∙ ap (map (reading plan.tree script).counts) run.sound.program.preorder
+
 run_at_tree : (l : EndLaws) (document : Document) (plan : PlanModel) (script : List Fault) (reads writes : List Range) (now : FieldModel)
     (begins : List ℕ) (cause : Option Cause) → Written document plan script reads writes now begins cause → IsAccepted plan.tree script
     → length script ≤ faults_limit → HasRun (at_tree document plan.tree) script (absorbed (left document script writes) now true) begins cause
 run_at_tree l document plan script reads writes now begins cause run accepted few =
-    let counts : begins ≡ begins_in plan.tree script =
-    run.ended.ran.counts ∙ ap (map (reading plan.tree script).counts) run.sound.program.preorder in
+    let counts : begins ≡ begins_in plan.tree script = counts_are document plan script reads writes now begins cause run in
     record {
       holds = holds_run l document plan script reads writes now begins cause run accepted;
       counts = counts;
@@ -335,3 +339,24 @@ took_back_run {F} model l document plan script one rest new (Exhausted field cou
       ends = took.2;
     } in
     has_run l document plan script one rest (model field) new begins cause passed carved ended took.0
+
+-- ---- the engine's count
+
+all_counted : (document : Document) (plan : PlanModel) (script : List Fault) (one rest now : FieldModel) (begins : List ℕ)
+    (cause : Option Cause) → IsPassed document plan script → IsCarved plan document.regions script one rest
+    → HasEnded plan one now begins cause → sum begins ≡ sum (begins_in document.tree script)
+all_counted document plan script one rest now begins cause passed carved ended =
+    ap sum (counts_are document plan script carved.reads carved.writes now begins cause
+    (written_out document plan script one rest now begins cause carved ended)
+    ∙ ap (λ (tree : TreeModel). begins_in tree script) passed.planned)
+
+-- an engine that counted the outcome's begins counted the reading's
+pub outcome_counted : {F : Type 0} (model : F → FieldModel) (document : Document) (plan : PlanModel) (script : List Fault)
+    (one rest : FieldModel) (outcome : Outcome F) (was new : ℕ) → IsPassed document plan script → IsCarved plan document.regions script one rest
+    → RanTo model plan one outcome → FewBegins one outcome → new ≡ counted was (begins_of outcome) → IsCounted document script was new
+outcome_counted {F} model document plan script one rest (Committed field begins) was new passed carved ran few counts =
+    counts ∙ ap (counted was) (all_counted document plan script one rest (model field) begins None passed carved
+    (record { ending = Done ran.0; ran = ran.1; few = few; ends = refl }))
+outcome_counted {F} model document plan script one rest (Exhausted field begins cause) was new passed carved ran few counts =
+    counts ∙ ap (counted was) (all_counted document plan script one rest (model field) begins (Some cause) passed carved
+    (record { ending = Escalated cause ran.0; ran = ran.1; few = few; ends = refl }))

@@ -1,6 +1,6 @@
 -- A run that came to its end, read off what its call meets.
-use Rattle.std.proofs.Common.{◌≡◌, ℕ, Bool, true, false, List, Option, None, Some, refl, ap, sym, subst, ◌∙◌, inl, inr}
-use Rattle.cd_base.specs.Ends.{SinkModel, Grew}
+use Rattle.std.proofs.Common.{◌≡◌, ℕ, Bool, List, Option, None, Some, refl, ap, sym, subst, ◌∙◌, inl, inr}
+use Rattle.cd_base.specs.Ends.{Grew}
 use Rattle.cd_tree.specs.declared.event.Cause.{Cause}
 use Rattle.cd_reading.specs.Through.{cause_in}
 use Rattle.cd_app.specs.declared.status.Status.{Status}
@@ -8,8 +8,8 @@ use Rattle.cd_app.specs.declared.status.Status.TheVariants.{Done, Exhausted, Usa
 use Rattle.cd_app.specs.Running.{HoldsRun}
 use Rattle.cd_app.specs.Deeds.{one_document, Accepted, Deed, runs, deed_in}
 use Rattle.cd_app.specs.Outcomes.{Input, whole, too_much, unread, Gave, AcceptsBytes, Outcome, refused, not_read, ran, Judged, ComesOfInput, ComesOf, status_by, status_of}
-use Rattle.cd_app.specs.Calls.{Call, text_in, Leaves, Ends, by_text, by_line, standing, CutShort, Meets}
-use Rattle.cd_app.specs.Headline.{comes_of_a_run, RunIsTold, RunsAreTold}
+use Rattle.cd_app.specs.Calls.{Call, CountsRun, text_in, Leaves, Ends, by_text, by_line, standing, CutShort}
+use Rattle.cd_app.specs.Headline.{RunsAreTold}
 
 -- an outcome that is a run of an accepted input
 record IsRun (call : Call) (with_record : Bool) (outcome : Outcome) : Type 0 where
@@ -51,10 +51,20 @@ runs_by_text call with_record outcome asked ends text =
     subst (λ (d : Option Deed). ComesOf (Gave call.source_was call.source_now) d outcome) asked ends.0 in
     input_runs call with_record comes.0 outcome comes.1 comes.2 text
 
+-- what it leaves
+left : (call : Call) (with_record : Bool) (outcome : Outcome) (run : IsRun call with_record outcome) → Ends call outcome
+    → Leaves call (ran with_record run.input)
+left call with_record outcome run ends = subst (λ (o : Outcome). Leaves call o) run.is ends.1
+
 -- the machine holds it
 held : (call : Call) (with_record : Bool) (outcome : Outcome) (run : IsRun call with_record outcome) → Ends call outcome
     → HoldsRun run.input.document run.input.script call.machine_now
-held call with_record outcome run ends = subst (λ (o : Outcome). Leaves call o) run.is ends.1
+held call with_record outcome run ends = (left call with_record outcome run ends).0
+
+-- and the engine counted it
+counted_in : (call : Call) (with_record : Bool) (outcome : Outcome) (run : IsRun call with_record outcome) → Ends call outcome
+    → CountsRun call run.input
+counted_in call with_record outcome run ends = (left call with_record outcome run ends).1
 
 done_cause : (cause : Option Cause) → status_by cause ≡ Done → cause ≡ None
 done_cause None same = refl
@@ -81,6 +91,7 @@ runs_are_told call old new Done with_record asked comes (outcome, ends, same, gr
         done_cause (cause_in run.input.document.tree run.input.script) (by_cause call with_record outcome run Done same),
         subst (λ (o : Outcome). Grew old new (text_in call o)) run.is grew,
       );
+      counts = counted_in call with_record outcome run ends;
     }
 runs_are_told call old new (Exhausted why) with_record asked comes (outcome, ends, same, grew) =
     let run : IsRun call with_record outcome = runs_by_text call with_record outcome asked ends (ap standing same) in
@@ -93,6 +104,7 @@ runs_are_told call old new (Exhausted why) with_record asked comes (outcome, end
         exhausted_cause (cause_in run.input.document.tree run.input.script) why (by_cause call with_record outcome run (Exhausted why) same),
         subst (λ (o : Outcome). Grew old new (text_in call o)) run.is grew,
       );
+      counts = counted_in call with_record outcome run ends;
     }
 runs_are_told call old new WriteFault with_record asked comes (outcome, ends, text, cut) =
     let run : IsRun call with_record outcome = runs_by_text call with_record outcome asked ends text in
@@ -102,6 +114,7 @@ runs_are_told call old new WriteFault with_record asked comes (outcome, ends, te
       accepted = run.accepted;
       holds = held call with_record outcome run ends;
       tells = subst (λ (o : Outcome). CutShort old new (text_in call o)) run.is cut;
+      counts = counted_in call with_record outcome run ends;
     }
 runs_are_told call old new Usage with_record asked comes meets = absurd cc
 runs_are_told call old new (Refused refusal) with_record asked comes meets = absurd cc

@@ -1,5 +1,5 @@
 -- Legal records: words that agree in the root's entries serve as well, and at most two events stand for one.
-use Rattle.std.proofs.Common.{◌≡◌, ℕ, ◌*◌, ◌<◌, ◌≤◌, true, List, [], ◌∷◌, length, Option, None, Some, IsSomeAnd, refl, ap, sym, ◌∙◌, arith}
+use Rattle.std.proofs.Common.{◌≡◌, ℕ, ◌*◌, ◌≤◌, true, List, length, Option, None, Some, IsSomeAnd, refl, sym, ◌∙◌, arith}
 use Rattle.cd_base.specs.declared.place.Place.{Place}
 use Rattle.cd_base.specs.declared.place.Range.{Range}
 use Rattle.cd_base.specs.declared.pattern.Pattern.{Pattern}

@@ -1,5 +1,5 @@
 -- The part of a loaded machine that the root reaches: what is asked to carve it out, and what it has for a run.
-use Rattle.std.proofs.Common.{◌≡◌, ℕ, ◌<◌, Bool, true, ◌||◌, cond, List, Option, None, Some, IsSome, IsSomeAnd, slice_get, length, refl, ap, subst, sym, ◌∙◌}
+use Rattle.std.proofs.Common.{◌≡◌, ◌<◌, Bool, true, ◌||◌, cond, List, Option, None, Some, IsSome, IsSomeAnd, slice_get, length, refl, ap, subst, sym, ◌∙◌}
 use Rattle.std.proofs.lemmas.Bool.{or_left, or_right}
 use Rattle.cd_base.specs.declared.place.Place.{Place}
 use Rattle.cd_base.specs.declared.place.Range.{Range}

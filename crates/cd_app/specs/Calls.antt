@@ -4,32 +4,51 @@ use Rattle.cd_base.specs.Ends.{SourceModel, SinkModel, Rose, TookAtMost, Grew, G
 use Rattle.cd_field.specs.FieldModel.{FieldModel}
 use Rattle.cd_app.specs.declared.status.Status.{Status}
 use Rattle.cd_app.specs.declared.status.Status.TheVariants.{Done, Exhausted, Usage, Refused, ReadFault, WriteFault, NoMemory}
-use Rattle.cd_app.specs.Running.{HoldsRun}
+use Rattle.cd_app.specs.Running.{HoldsRun, IsCounted}
 use Rattle.cd_app.specs.Deeds.{Intake, Accepted, deed_in, intake_in}
 use Rattle.cd_app.specs.Outcomes.{Gave, Outcome, no_command, made, ran, ComesOf, status_of, text_of}
 
--- a call as it is seen from outside: the command's words, the source before and after, and the machine before and after
+-- a call as it is seen from outside: the command's words, the source before and after, the machine before and after, and the
+-- engine's count of begins before and after
 pub record Call : Type 0 where
   pub words : List (List ℕ)
   pub source_was : SourceModel
   pub source_now : SourceModel
   pub machine_was : FieldModel
   pub machine_now : FieldModel
+  pub engine_was : ℕ
+  pub engine_now : ℕ
 
-abbrev pub call_of : List (List ℕ) → SourceModel → SourceModel → FieldModel → FieldModel → Call
-call_of words source_was source_now machine_was machine_now =
-    record { words = words; source_was = source_was; source_now = source_now; machine_was = machine_was; machine_now = machine_now }
+abbrev pub call_of : List (List ℕ) → SourceModel → SourceModel → FieldModel → FieldModel → ℕ → ℕ → Call
+call_of words source_was source_now machine_was machine_now engine_was engine_now = record {
+  words = words;
+  source_was = source_was;
+  source_now = source_now;
+  machine_was = machine_was;
+  machine_now = machine_now;
+  engine_was = engine_was;
+  engine_now = engine_now;
+}
 
 -- this comes of the call's words and of what the source gave
 abbrev pub Comes : Call → Outcome → Type 0
 Comes call outcome = ComesOf (Gave call.source_was call.source_now) (deed_in call.words) outcome
 
--- what an outcome leaves: the source as it was, where no input is taken; the machine as it was, or with the run on it
+-- the machine and the engine's count are as they were
+abbrev pub NothingRan : Call → Type 0
+NothingRan call = (call.machine_now ≡ call.machine_was) × (call.engine_now ≡ call.engine_was)
+
+-- the engine counted the run of an input
+abbrev pub CountsRun : Call → Accepted → Type 0
+CountsRun call input = IsCounted input.document input.script call.engine_was call.engine_now
+
+-- what an outcome leaves: the source as it was, where no input is taken; the machine and the engine's count as they were, or with
+-- the run on it and counted
 abbrev pub Leaves : Call → Outcome → Type 0
-Leaves call no_command = (call.source_now ≡ call.source_was) × (call.machine_now ≡ call.machine_was)
-Leaves call (made text) = (call.source_now ≡ call.source_was) × (call.machine_now ≡ call.machine_was)
-Leaves call (ran with_record input) = HoldsRun input.document input.script call.machine_now
-Leaves call _ = call.machine_now ≡ call.machine_was
+Leaves call no_command = (call.source_now ≡ call.source_was) × NothingRan call
+Leaves call (made text) = (call.source_now ≡ call.source_was) × NothingRan call
+Leaves call (ran with_record input) = HoldsRun input.document input.script call.machine_now × CountsRun call input
+Leaves call _ = NothingRan call
 
 -- the text of an outcome of the call; that of a run is of the machine's events after the call
 abbrev pub text_in : Call → Outcome → List ℕ
@@ -70,14 +89,16 @@ abbrev pub TookWithin : Option Intake → SourceModel → SourceModel → Type 0
 TookWithin None old new = new ≡ old
 TookWithin (Some intake) old new = TookAtMost old new intake.limit
 
--- the call came to a run
+-- the call came to a run, and the engine's count is as it was, or has that run in it
 abbrev pub ComesToRun : Call → Type 0
-ComesToRun call = (with_record : Bool) × (input : Accepted) × Comes call (ran with_record input)
+ComesToRun call =
+    (with_record : Bool) × (input : Accepted) × Comes call (ran with_record input)
+    × ((call.engine_now ≡ call.engine_was) ⊎ CountsRun call input)
 
--- memory ran out before there was a text to write: no more was taken than the command may take, and the machine is as it
--- was unless the document came to run
+-- memory ran out before there was a text to write: no more was taken than the command may take, and the machine and the engine's
+-- count are as they were unless the document came to run
 abbrev pub RanOut : Call → Type 0
-RanOut call = TookWithin (intake_in call.words) call.source_was call.source_now × ((call.machine_now ≡ call.machine_was) ⊎ ComesToRun call)
+RanOut call = TookWithin (intake_in call.words) call.source_was call.source_now × (NothingRan call ⊎ ComesToRun call)
 
 -- ---- calls
 

@@ -8,7 +8,7 @@ use Rattle.cd_app.specs.declared.status.Status.TheVariants.{Done, Exhausted, Wri
 use Rattle.cd_app.specs.Running.{HoldsRun, ran_text}
 use Rattle.cd_app.specs.Deeds.{Accepted, one_document, runs, deed_in}
 use Rattle.cd_app.specs.Outcomes.{whole, Gave, AcceptsBytes}
-use Rattle.cd_app.specs.Calls.{Call, CutShort, Meets}
+use Rattle.cd_app.specs.Calls.{Call, CountsRun, CutShort, Meets}
 
 -- these statuses come of a run, where the words ask for one
 abbrev pub comes_of_a_run : Status → Bool
@@ -25,7 +25,8 @@ Tells WriteFault old new cause text = CutShort old new text
 Tells _ old new cause text = ⊥
 
 -- the source gave an accepted document; the machine's record is legal for its one-thread reading, and the regions are the
--- fault-free program's or, where the script exhausts the root, the initial ones, with nothing lost; status and text say so
+-- fault-free program's or, where the script exhausts the root, the initial ones, with nothing lost; status and text say so; and the
+-- engine counted the reading's begins
 pub record RunIsTold (call : Call) (old new : SinkModel) (status : Status) (with_record : Bool) : Type 0 where
   pub input : Accepted
   pub gave : Gave call.source_was call.source_now one_document.limit (whole input.bytes)
@@ -33,6 +34,7 @@ pub record RunIsTold (call : Call) (old new : SinkModel) (status : Status) (with
   pub holds : HoldsRun input.document input.script call.machine_now
   pub tells : Tells status old new (cause_in input.document.tree input.script)
       (ran_text with_record input.document input.script call.machine_now.events)
+  pub counts : CountsRun call input
 
 -- each run that came to its end is told
 abbrev pub RunsAreTold : Type 0

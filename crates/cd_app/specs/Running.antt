@@ -13,6 +13,7 @@ use Rattle.cd_tree.specs.Record.{reading, record_of}
 use Rattle.cd_print.specs.Canonical.{canonical, lifted}
 use Rattle.cd_field.specs.FieldModel.{FieldModel, nowhere}
 use Rattle.cd_reading.specs.Through.{begins_in, cause_in}
+use Rattle.cd_pool.specs.Counts.{counted}
 use Rattle.cd_report.specs.Reports.{last_words, report_of}
 use Rattle.cd_report.specs.Texts.{reading_text, accepted_line}
 
@@ -58,3 +59,8 @@ pub record HasRun (document : Document) (script : List Fault) (m : FieldModel) (
   pub counts : begins ≡ begins_in document.tree script
   pub total : sum begins < 2 ^ 64
   pub ends : cause ≡ cause_in document.tree script
+
+-- an engine's count before and after a run: it rose by the begins of the one-thread reading, of all domains together, or stands
+-- at its last value
+abbrev pub IsCounted : Document → List Fault → ℕ → ℕ → Type 0
+IsCounted document script was now = now ≡ counted was (sum (begins_in document.tree script))

@@ -40,7 +40,7 @@ pub(crate) fn act<S: Source, K: Sink>(
     source: &mut S,
     sink: &mut K,
 ) -> Status
-    ensures { (words : List (List ℕ)) (m : FieldModel) → deed_in words ≡ Some (deed_for action) → Meets (call_of words (S.model source.old) (S.model source.new) m m) (K.model sink.old) (K.model sink.new) result }
+    ensures { (words : List (List ℕ)) (m : FieldModel) (count : ℕ) → deed_in words ≡ Some (deed_for action) → Meets (call_of words (S.model source.old) (S.model source.new) m m count count) (K.model sink.old) (K.model sink.new) result }
 {
     a_document_is_well_read();
     match receive(alloc, source) {

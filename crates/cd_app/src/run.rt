@@ -1,6 +1,6 @@
 //! The action `run`: a document's program on a machine, and its report.
 
-ghost use Rattle.std.specs.Prelude.{◌≡◌, ℕ, List, Some};
+ghost use Rattle.std.specs.Prelude.{◌≡◌, ℕ, ◌<◌, ◌≤◌, List, Some};
 ghost use Rattle.std.specs.Option.{option_copied};
 ghost use Rattle.cd_base.specs.Ends.{WriteAll};
 ghost use Rattle.cd_tree.specs.declared.document.Fault.{Fault};
@@ -12,7 +12,7 @@ ghost use Rattle.cd_app.specs.Calls.{Call, Meets, call_of};
 ghost use Rattle.cd_app.specs.Parts.{IsRead, IsPassed};
 
 use crate::Status;
-use crate::engine::run_machine;
+use crate::program::run_machine;
 use crate::receive::receive;
 use crate::status::{settled, status_by};
 use crate::tell::{tell, tell_of};
@@ -22,6 +22,7 @@ use cd_cover::Plan;
 use cd_field::Field;
 use cd_foot::Footprints;
 use cd_parse::laws::a_document_is_well_read;
+use cd_pool::Engine;
 use cd_report::write_run;
 use cd_tree::{Begins, Cause, Document, Script, laws};
 use std::alloc::Global;
@@ -36,39 +37,47 @@ pub struct AskedRun {
 }
 
 // Runs the document that the source gives, if the checks pass it.
-pub(crate) fn run_source<R: Threads + Wait + Sync, S: Source, K: Sink, F: Field>(
+pub(crate) fn run_source<R: Threads + Wait + Sync, S: Source, K: Sink, F: Field, E: Engine>(
     rt: &R,
     alloc: Global,
     asked: AskedRun,
     source: &mut S,
     sink: &mut K,
     machine: &mut F,
+    engine: &mut E,
 ) -> Status
-    ensures { (words : List (List ℕ)) → deed_in words ≡ Some (runs one_document asked.with_record) → Meets (call_of words (S.model source.old) (S.model source.new) (F.model machine.old) (F.model machine.new)) (K.model sink.old) (K.model sink.new) result }
+    requires some { 0 < asked.workers }
+    requires most { asked.workers ≤ 64 }
+    ensures { (words : List (List ℕ)) → deed_in words ≡ Some (runs one_document asked.with_record) → Meets (call_of words (S.model source.old) (S.model source.new) (F.model machine.old) (F.model machine.new) (E.begins engine.old) (E.begins engine.new)) (K.model sink.old) (K.model sink.new) result }
 {
     a_document_is_well_read();
     match receive(alloc, source) {
-        Ok(document) => judge(rt, alloc, asked, &document, sink, machine),
+        Ok(document) => judge(rt, alloc, asked, &document, sink, machine, engine),
         Err(stop) => tell(alloc, stop, sink),
     }
 }
 
 // Runs a document, if the checks pass it.
-fn judge<R: Threads + Wait + Sync, K: Sink, F: Field>(
+fn judge<R: Threads + Wait + Sync, K: Sink, F: Field, E: Engine>(
     rt: &R,
     alloc: Global,
     asked: AskedRun,
     document: &Document,
     sink: &mut K,
     machine: &mut F,
+    engine: &mut E,
 ) -> Status
     requires well { WellRead document.now }
-    ensures { (call : Call) → deed_in call.words ≡ Some (runs one_document asked.with_record) → intake_in call.words ≡ Some one_document → IsRead one_document call.source_was call.source_now document.now → call.machine_was ≡ F.model machine.old → call.machine_now ≡ F.model machine.new → Meets call (K.model sink.old) (K.model sink.new) result }
+    requires some { 0 < asked.workers }
+    requires most { asked.workers ≤ 64 }
+    ensures { (call : Call) → deed_in call.words ≡ Some (runs one_document asked.with_record) → intake_in call.words ≡ Some one_document → IsRead one_document call.source_was call.source_now document.now → call.machine_was ≡ F.model machine.old → call.machine_now ≡ F.model machine.new → call.engine_was ≡ E.begins engine.old → call.engine_now ≡ E.begins engine.new → Meets call (K.model sink.old) (K.model sink.new) result }
 {
     match Footprints::of(alloc, &document.tree) {
         Ok(feet) => match check(alloc, document, &feet) {
             Ok((plan, script)) => {
-                run_document(rt, alloc, asked, document, &plan, &script, sink, machine)
+                run_document(
+                    rt, alloc, asked, document, &plan, &script, sink, machine, engine,
+                )
             }
             Err(refuse) => tell_of(alloc, document, refuse, sink),
         },
@@ -77,7 +86,7 @@ fn judge<R: Threads + Wait + Sync, K: Sink, F: Field>(
 }
 
 // Runs a document that the checks pass.
-fn run_document<R: Threads + Wait + Sync, K: Sink, F: Field>(
+fn run_document<R: Threads + Wait + Sync, K: Sink, F: Field, E: Engine>(
     rt: &R,
     alloc: Global,
     asked: AskedRun,
@@ -86,11 +95,23 @@ fn run_document<R: Threads + Wait + Sync, K: Sink, F: Field>(
     script: &Script,
     sink: &mut K,
     machine: &mut F,
+    engine: &mut E,
 ) -> Status
-    requires { IsPassed document.now plan.now script.now }
-    ensures { (call : Call) → deed_in call.words ≡ Some (runs one_document asked.with_record) → IsRead one_document call.source_was call.source_now document.now → call.machine_was ≡ F.model machine.old → call.machine_now ≡ F.model machine.new → Meets call (K.model sink.old) (K.model sink.new) result }
+    requires passed { IsPassed document.now plan.now script.now }
+    requires some { 0 < asked.workers }
+    requires most { asked.workers ≤ 64 }
+    ensures { (call : Call) → deed_in call.words ≡ Some (runs one_document asked.with_record) → IsRead one_document call.source_was call.source_now document.now → call.machine_was ≡ F.model machine.old → call.machine_now ≡ F.model machine.new → call.engine_was ≡ E.begins engine.old → call.engine_now ≡ E.begins engine.new → Meets call (K.model sink.old) (K.model sink.new) result }
 {
-    match run_machine(rt, alloc, asked.workers, document, plan, script, machine) {
+    match run_machine(
+        rt,
+        alloc,
+        asked.workers,
+        document,
+        plan,
+        script,
+        machine,
+        engine,
+    ) {
         Ok((begins, cause)) => {
             let told = cause.as_ref();
             let wrote = report(

@@ -3,7 +3,7 @@
 ghost use Rattle.std.specs.Prelude.{◌≡◌, Some, Err};
 ghost use Rattle.cd_check.specs.Checking.{Checks};
 ghost use Rattle.cd_app.specs.Deeds.{one_document, intake_in};
-ghost use Rattle.cd_app.specs.Calls.{Call, Meets};
+ghost use Rattle.cd_app.specs.Calls.{Call, Meets, NothingRan};
 ghost use Rattle.cd_app.specs.Parts.{IsNone, IsRead};
 
 use crate::Status;
@@ -16,7 +16,7 @@ use std::alloc::Global;
 
 // Writes why there is no document.
 pub(crate) fn tell<K: Sink>(alloc: Global, stop: Stop, sink: &mut K) -> Status
-    ensures { (call : Call) → intake_in call.words ≡ Some one_document → call.machine_now ≡ call.machine_was → IsNone one_document call.source_was call.source_now stop → Meets call (K.model sink.old) (K.model sink.new) result }
+    ensures { (call : Call) → intake_in call.words ≡ Some one_document → NothingRan call → IsNone one_document call.source_was call.source_now stop → Meets call (K.model sink.old) (K.model sink.new) result }
 {
     match stop {
         Stop::Refused(refusal) => {
@@ -35,7 +35,7 @@ pub(crate) fn tell_of<K: Sink>(
     refuse: Refuse,
     sink: &mut K,
 ) -> Status
-    ensures { (call : Call) → intake_in call.words ≡ Some one_document → call.machine_now ≡ call.machine_was → IsRead one_document call.source_was call.source_now document.now → Checks document.now (Err refuse) → Meets call (K.model sink.old) (K.model sink.new) result }
+    ensures { (call : Call) → intake_in call.words ≡ Some one_document → NothingRan call → IsRead one_document call.source_was call.source_now document.now → Checks document.now (Err refuse) → Meets call (K.model sink.old) (K.model sink.new) result }
 {
     match refuse {
         Refuse::Refused(refusal) => {

@@ -2,7 +2,6 @@
 use Rattle.std.proofs.Common.{◌≡◌, ℕ, Bool, true, false, List, [], ◌∷◌, ◌++◌, Option, Some, None, Result, slice_get, codes, refl, sym, ap, subst, ◌∙◌, append-nil}
 use Rattle.std.specs.Io.KnownBytes.{Consumes, IsAtEnd}
 use Rattle.cd_base.specs.Ends.{SinkModel}
-use Rattle.cd_tree.specs.declared.document.Region.{Region}
 use Rattle.cd_tree.specs.declared.document.Document.{Document}
 use Rattle.cd_tree.specs.declared.refusal.Refusal.{Refusal}
 use Rattle.cd_tree.specs.Laws.{WordsStay}
@@ -15,7 +14,6 @@ use Rattle.cd_tokens.specs.Blocks.{marked_lines}
 use Rattle.cd_tokens.specs.Sums.{atom, times, term, plus, expression}
 use Rattle.cd_tokens.specs.Names.{name, path}
 use Rattle.cd_tokens.specs.Kinds.{kind, kind_set, pattern}
-use Rattle.cd_field.specs.FieldModel.{FieldModel}
 use Rattle.cd_app.specs.declared.status.Status.{Status}
 use Rattle.cd_app.specs.Calls.{Call, Meets}
 use Rattle.cd_app.specs.Headline.{comes_of_a_run, RunIsTold, RunsAreTold}

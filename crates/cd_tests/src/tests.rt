@@ -19,6 +19,7 @@ mod calls;
 mod checks;
 mod commands;
 mod documents;
+mod engines;
 mod faults;
 mod language;
 mod largest;

@@ -4,6 +4,7 @@ use cd_app::{Status, run_cd};
 use cd_base::{MemorySink, MemorySource, Text};
 use cd_command::Words;
 use cd_field::{Field, MapField};
+use cd_pool::{OpenGate, PoolEngine};
 use std::alloc::Global;
 use std::sync::Wait;
 use std::test::Fail;
@@ -27,12 +28,14 @@ pub(crate) const EXHAUSTED: &str =
 pub(crate) const USAGE: &str =
     "usage: cd check|read|run|make|lift [--workers N] [--record] [--size N]\n";
 
-/// What a call gave: its status as a number, what it wrote, and whether the machine's record has an event after it.
+/// What a call gave: its status as a number, what it wrote, whether the machine's record has an event after it, and how many begins
+/// an engine counted that had counted none.
 #[derive(Drop)]
 pub(crate) struct Answer {
     pub status: u8,
     pub written: Vec<u8>,
     pub began: bool,
+    pub counted: u64,
 }
 
 impl Answer {
@@ -62,8 +65,17 @@ pub(crate) fn call<R: Threads + Wait + Sync>(
     let text = Vec::from_slice(alloc, text)?;
     let mut source = MemorySource::new(text, 4096, Vec::new(alloc));
     let mut sink = MemorySink::new(alloc, 65536, Vec::new(alloc));
-    let status = run_cd(rt, alloc, &words, &mut source, &mut sink, machine);
-    answered(alloc, &status, &sink, machine)
+    let mut engine = PoolEngine::new(&OpenGate);
+    let status = run_cd(
+        rt,
+        alloc,
+        &words,
+        &mut source,
+        &mut sink,
+        machine,
+        &mut engine,
+    );
+    answered(alloc, &status, &sink, machine, engine.begins())
 }
 
 /// A call with these words on a text, whose source gives and whose sink takes one byte a call. They fail at the calls with
@@ -80,8 +92,17 @@ pub(crate) fn call_failing<R: Threads + Wait + Sync>(
     let text = Vec::from_slice(alloc, text.as_bytes())?;
     let mut source = MemorySource::new(text, 1, Vec::from_slice(alloc, &[failing_read])?);
     let mut sink = MemorySink::new(alloc, 1, Vec::from_slice(alloc, &[failing_write])?);
-    let status = run_cd(rt, alloc, &words, &mut source, &mut sink, machine);
-    answered(alloc, &status, &sink, machine)
+    let mut engine = PoolEngine::new(&OpenGate);
+    let status = run_cd(
+        rt,
+        alloc,
+        &words,
+        &mut source,
+        &mut sink,
+        machine,
+        &mut engine,
+    );
+    answered(alloc, &status, &sink, machine, engine.begins())
 }
 
 fn answered(
@@ -89,11 +110,13 @@ fn answered(
     status: &Status,
     sink: &MemorySink,
     machine: &MapField,
+    counted: u64,
 ) -> Result<Answer, Fail> {
     Ok(Answer {
         status: status.code(),
         written: Vec::from_slice(alloc, sink.bytes())?,
         began: machine.event(0).is_some(),
+        counted,
     })
 }
 
@@ -121,14 +144,20 @@ fn failed(words: &[&str], why: &str, case: &Case) -> Fail {
     Fail::new(format_args!("{words:?} {why}: {back} behind {front}"))
 }
 
-/// Whether the machine's record has an event after a call, which fails the test unless it answers as the case says.
+/// Whether the engine counted as many begins as the report's line `total` has, and none where there is none.
+fn counts_as_told(alloc: Global, counted: u64, written: &str) -> Result<bool, Fail> {
+    let line = format!(in alloc; "\ntotal {counted}\n")?;
+    Ok(written.contains(line.as_str()) || (counted == 0 && !written.contains("\ntotal ")))
+}
+
+/// A call that answers as the case says, and fails the test where it does not.
 fn answers<R: Threads + Wait + Sync>(
     rt: &R,
     alloc: Global,
     words: &[&str],
     case: &Case,
     machine: &mut MapField,
-) -> Result<bool, Fail> {
+) -> Result<Answer, Fail> {
     let (front, back, status, written) = case;
     let answer = call_joined(rt, alloc, words, front, back, machine)?;
     if answer.status != *status {
@@ -137,10 +166,11 @@ fn answers<R: Threads + Wait + Sync>(
     if answer.written.as_slice() != written.as_bytes() {
         return Err(failed(words, "writes another text", case));
     }
-    Ok(answer.began)
+    Ok(answer)
 }
 
-/// A call that runs a document: it answers as the case says, and the record begins exactly where the status is of a run.
+/// A call that runs a document: it answers as the case says, the record begins exactly where the status is of a run, and the engine
+/// counts what the report does.
 fn runs<R: Threads + Wait + Sync>(
     rt: &R,
     alloc: Global,
@@ -148,14 +178,18 @@ fn runs<R: Threads + Wait + Sync>(
     case: &Case,
 ) -> Result<(), Fail> {
     let mut machine = MapField::empty(alloc);
-    let (_, _, status, _) = case;
-    if answers(rt, alloc, words, case, &mut machine)? == (*status < 2) {
-        return Ok(());
+    let (_, _, status, written) = case;
+    let answer = answers(rt, alloc, words, case, &mut machine)?;
+    if answer.began != (*status < 2) {
+        return Err(failed(words, "leaves another record", case));
     }
-    Err(failed(words, "leaves another record", case))
+    if !counts_as_told(alloc, answer.counted, written)? {
+        return Err(failed(words, "counts other begins", case));
+    }
+    Ok(())
 }
 
-/// A call that runs nothing: it answers as the case says, and there is no record.
+/// A call that runs nothing: it answers as the case says, there is no record, and nothing is counted.
 pub(crate) fn tells<R: Threads + Wait + Sync>(
     rt: &R,
     alloc: Global,
@@ -163,7 +197,8 @@ pub(crate) fn tells<R: Threads + Wait + Sync>(
     case: &Case,
 ) -> Result<(), Fail> {
     let mut machine = MapField::empty(alloc);
-    if answers(rt, alloc, words, case, &mut machine)? {
+    let answer = answers(rt, alloc, words, case, &mut machine)?;
+    if answer.began || answer.counted != 0 {
         return Err(failed(words, "leaves a record", case));
     }
     Ok(())

@@ -4,6 +4,7 @@ use super::calls::{FILL, FILLED, USAGE, call_joined, touches, words_of};
 use cd_app::{plain_cd, run_cd};
 use cd_base::{MemorySink, MemorySource, read_all};
 use cd_field::{Field, MapField};
+use cd_pool::{OpenGate, PoolEngine};
 use cd_tree::{Event, NodeId};
 use std::alloc::Global;
 use std::sync::Wait;
@@ -32,7 +33,7 @@ static NOTHING: [&[&str]; 54] = lists! {
     ["--size=4"];
 };
 
-// A call with these words writes the usage line, reads nothing, and leaves the machine as the run before left it.
+// A call with these words writes the usage line, reads nothing, counts nothing, and leaves the machine as the run before left it.
 fn give_nothing<R: Threads + Wait + Sync>(
     rt: &R,
     alloc: Global,
@@ -44,7 +45,16 @@ fn give_nothing<R: Threads + Wait + Sync>(
     let text = Vec::from_slice(alloc, FILL.as_bytes())?;
     let mut source = MemorySource::new(text, 1, Vec::new(alloc));
     let mut sink = MemorySink::new(alloc, 1, Vec::new(alloc));
-    let status = run_cd(rt, alloc, &words, &mut source, &mut sink, &mut machine);
+    let mut engine = PoolEngine::new(&OpenGate);
+    let status = run_cd(
+        rt,
+        alloc,
+        &words,
+        &mut source,
+        &mut sink,
+        &mut machine,
+        &mut engine,
+    );
     let left = read_all(alloc, &mut source, 100)?;
     let last = Some(Event::Complete { node: NodeId(0) });
     if status.code() == 2
@@ -52,6 +62,7 @@ fn give_nothing<R: Threads + Wait + Sync>(
         && left.as_slice() == FILL.as_bytes()
         && machine.event(5) == last
         && machine.event(6).is_none()
+        && engine.begins() == 0
     {
         return Ok(());
     }

@@ -10,6 +10,7 @@ use cd_app::{Status, run_cd};
 use cd_base::{MemorySink, MemorySource, Place, Sink, Source, Text};
 use cd_command::Words;
 use cd_field::{Field, MapField};
+use cd_pool::{Engine, OpenGate, PoolEngine};
 use cd_tree::{Event, Kept, Kind, Kinds, NodeId, laws};
 use std::alloc::Global;
 use std::sync::Wait;
@@ -42,13 +43,14 @@ fn word(machine: &MapField, index: u32) -> u64
 }
 
 // Runs what the source has, and says whether the run came to its end.
-fn runs<R: Threads + Wait + Sync, S: Source, K: Sink, F: Field>(
+fn runs<R: Threads + Wait + Sync, S: Source, K: Sink, F: Field, E: Engine>(
     rt: &R,
     alloc: Global,
     words: &Words,
     source: &mut S,
     sink: &mut K,
     machine: &mut F,
+    engine: &mut E,
 ) -> bool
     requires run { IsRun words.now false }
     requires text { HasFourWordsLeft (S.model source.old).left }
@@ -56,7 +58,7 @@ fn runs<R: Threads + Wait + Sync, S: Source, K: Sink, F: Field>(
 {
     laws::words_stay();
     cd_app::laws::a_run_leaves_what_the_reading_gives();
-    let status = run_cd(rt, alloc, words, source, sink, machine);
+    let status = run_cd(rt, alloc, words, source, sink, machine, engine);
     comes_of_a_run(&status)
 }
 
@@ -74,7 +76,16 @@ fn words_behind<R: Threads + Wait + Sync>(
     let mut source = MemorySource::new(text, 4096, Vec::new(alloc));
     let mut sink = MemorySink::new(alloc, 1, Vec::from_slice(alloc, &[failing_write])?);
     let mut machine = MapField::empty(alloc);
-    if runs(rt, alloc, &words, &mut source, &mut sink, &mut machine) {
+    let mut engine = PoolEngine::new(&OpenGate);
+    if runs(
+        rt,
+        alloc,
+        &words,
+        &mut source,
+        &mut sink,
+        &mut machine,
+        &mut engine,
+    ) {
         return Ok(Some(four_words(&machine)));
     }
     Ok(None)

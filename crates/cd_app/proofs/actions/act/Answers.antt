@@ -16,21 +16,21 @@ write_text-wrote-requires-clause-few g c =
 
 pub returns-in-Ok-passes : goal.returns-in-Ok-passes
 returns-in-Ok-passes g c =
-    λ words m asked.
-    said_told (call_of words (g.S.Source.model c.args.source.now) (g.S.Source.model c.receive.new.source) m m)
+    λ words m count asked.
+    said_told (call_of words (g.S.Source.model c.args.source.now) (g.S.Source.model c.receive.new.source) m m count count)
     (g.K.Sink.model c.args.sink.now) (g.K.Sink.model c.write_text-wrote.new.sink)
     (λ (input : Accepted). text_for c.args.action input.document input.script)
     c.in-Ok.document c.in-Ok-passes.script (text_for c.args.action c.in-Ok.document c.in-Ok-passes.script) c.settled.result c.write_text-wrote.result
-    asked c.in-Ok.ensures c.in-Ok-passes.ensures.passes refl refl c.settled.ensures c.write_text-wrote.ensures
+    asked c.in-Ok.ensures c.in-Ok-passes.ensures.passes (refl, refl) refl c.settled.ensures c.write_text-wrote.ensures
 
 pub returns-in-Err-passes : goal.returns-in-Err-passes
 returns-in-Err-passes g c =
-    λ words m asked.
-    c.tell_of.ensures (call_of words (g.S.Source.model c.args.source.now) (g.S.Source.model c.receive.new.source) m m)
-    (takes_by words (deed_for c.args.action) one_document asked refl) refl c.in-Ok.ensures c.in-Err-passes.ensures
+    λ words m count asked.
+    c.tell_of.ensures (call_of words (g.S.Source.model c.args.source.now) (g.S.Source.model c.receive.new.source) m m count count)
+    (takes_by words (deed_for c.args.action) one_document asked refl) (refl, refl) c.in-Ok.ensures c.in-Err-passes.ensures
 
 pub returns-in-Err : goal.returns-in-Err
 returns-in-Err g c =
-    λ words m asked.
-    c.tell.ensures (call_of words (g.S.Source.model c.args.source.now) (g.S.Source.model c.receive.new.source) m m)
-    (takes_by words (deed_for c.args.action) one_document asked refl) refl c.in-Err.ensures
+    λ words m count asked.
+    c.tell.ensures (call_of words (g.S.Source.model c.args.source.now) (g.S.Source.model c.receive.new.source) m m count count)
+    (takes_by words (deed_for c.args.action) one_document asked refl) (refl, refl) c.in-Err.ensures

@@ -11,12 +11,14 @@ pub returns-in-Ok : goal.returns-in-Ok
 returns-in-Ok g c =
     λ words asked.
     c.judge.ensures
-    (call_of words (g.S.Source.model c.args.source.now) (g.S.Source.model c.receive.new.source) (g.F.Field.model c.args.machine.now) (g.F.Field.model c.judge.new.machine))
-    asked (takes_by words (runs one_document c.args.asked.with_record) one_document asked refl) c.in-Ok.ensures refl refl
+    (call_of words (g.S.Source.model c.args.source.now) (g.S.Source.model c.receive.new.source) (g.F.Field.model c.args.machine.now)
+    (g.F.Field.model c.judge.new.machine) (g.E.Engine.begins c.args.engine.now) (g.E.Engine.begins c.judge.new.engine))
+    asked (takes_by words (runs one_document c.args.asked.with_record) one_document asked refl) c.in-Ok.ensures refl refl refl refl
 
 pub returns-in-Err : goal.returns-in-Err
 returns-in-Err g c =
     λ words asked.
     c.tell.ensures
-    (call_of words (g.S.Source.model c.args.source.now) (g.S.Source.model c.receive.new.source) (g.F.Field.model c.args.machine.now) (g.F.Field.model c.args.machine.now))
-    (takes_by words (runs one_document c.args.asked.with_record) one_document asked refl) refl c.in-Err.ensures
+    (call_of words (g.S.Source.model c.args.source.now) (g.S.Source.model c.receive.new.source) (g.F.Field.model c.args.machine.now)
+    (g.F.Field.model c.args.machine.now) (g.E.Engine.begins c.args.engine.now) (g.E.Engine.begins c.args.engine.now))
+    (takes_by words (runs one_document c.args.asked.with_record) one_document asked refl) (refl, refl) c.in-Err.ensures

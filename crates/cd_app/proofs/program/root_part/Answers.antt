@@ -3,7 +3,7 @@ use Rattle.cd_field.specs.FieldModel.{FieldModel, part_of, without}
 use Rattle.cd_tree.specs.Domains.{root_of}
 use Rattle.cd_tree.specs.Meaning.{node_reads, node_writes}
 use Rattle.cd_app.proofs.PartLemmas.{can_run, reads_are, reads_reach, root_known, side_present, writes_are, writes_reach}
-use Rattle.cd_app.proofs.engine.root_part.Goals as goal
+use Rattle.cd_app.proofs.program.root_part.Goals as goal
 
 pub carve-requires-clause-reads : goal.carve-requires-clause-reads
 carve-requires-clause-reads g c =

@@ -1,5 +1,5 @@
-use Rattle.cd_app.proofs.EndLemmas.{EndLaws, can_take_back, took_back_run}
-use Rattle.cd_app.proofs.engine.run_machine.Goals as goal
+use Rattle.cd_app.proofs.EndLemmas.{EndLaws, can_take_back, outcome_counted, took_back_run}
+use Rattle.cd_app.proofs.program.run_machine.Goals as goal
 
 pub take_back-requires-after_bounds : goal.take_back-requires-after_bounds
 take_back-requires-after_bounds g c κs within =
@@ -7,8 +7,8 @@ take_back-requires-after_bounds g c κs within =
     (g.F.Field.model c.root_part.new.machine) c.in_ok-outcome.outcome c.in_ok-part.ensures.carved c.in_ok-outcome.ensures.ran
     c.in_ok-outcome.ensures.few
 
-pub returns : goal.returns
-returns g c =
+pub returns-clause-ran : goal.returns-clause-ran
+returns-clause-ran g c =
     let laws : EndLaws = record {
       outer = c.outer_references_lead_out.ensures.these;
       entries = c.subtrees_are_seen_on_paths.ensures.entries;
@@ -18,4 +18,11 @@ returns g c =
     } in
     took_back_run g.F.Field.model laws c.args.document.now c.args.plan.now c.args.script.now (g.F.Field.model c.in_ok-part.part)
     (g.F.Field.model c.root_part.new.machine) (g.F.Field.model c.take_back.new.machine) c.in_ok-outcome.outcome c.in_ok-ran.ran.0 c.in_ok-ran.ran.1
-    c.requires c.in_ok-part.ensures.carved c.in_ok-outcome.ensures.ran c.in_ok-outcome.ensures.few c.in_ok-ran.ensures
+    c.requires.passed c.in_ok-part.ensures.carved c.in_ok-outcome.ensures.ran c.in_ok-outcome.ensures.few c.in_ok-ran.ensures
+
+pub returns-clause-counted : goal.returns-clause-counted
+returns-clause-counted g c =
+    outcome_counted g.F.Field.model c.args.document.now c.args.plan.now c.args.script.now (g.F.Field.model c.in_ok-part.part)
+    (g.F.Field.model c.root_part.new.machine) c.in_ok-outcome.outcome (g.E.Engine.begins c.args.engine.now)
+    (g.E.Engine.begins c.run_part.new.engine) c.requires.passed c.in_ok-part.ensures.carved c.in_ok-outcome.ensures.ran
+    c.in_ok-outcome.ensures.few c.in_ok-outcome.ensures.counted

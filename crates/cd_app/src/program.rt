@@ -1,28 +1,27 @@
 //! A document's program on a machine: the root's part is carved out, the engine runs on it, and it is taken back.
 
-ghost use Rattle.std.specs.Prelude.{IfOk};
-ghost use Rattle.cd_core.specs.StateLaws.{CanStart};
+ghost use Rattle.std.specs.Prelude.{◌≡◌, ◌⊎◌, ◌<◌, ◌≤◌, IfOk, OnOk, OnErr};
 ghost use Rattle.cd_core.specs.Running.{FewBegins, RanTo};
+ghost use Rattle.cd_pool.specs.Counts.{begins_of, counted};
 ghost use Rattle.cd_app.specs.Parts.{IsPassed};
 ghost use Rattle.cd_app.specs.Parting.{CanRun, CanTakeBack, IsCarved, TookBack};
-ghost use Rattle.cd_app.specs.Running.{HasRun};
+ghost use Rattle.cd_app.specs.Running.{HasRun, IsCounted};
 
 use crate::need::whole_need;
 use cd_base::NoMemory;
-use cd_cells::run_alone;
 use cd_core::Outcome;
 use cd_cover::Plan;
 use cd_field::Field;
-use cd_fork::run_root;
-use cd_keep::Pass;
 use cd_lease::LeasePass;
+use cd_pool::Engine;
 use cd_tree::{Begins, Cause, Document, NodeId, Script, laws};
 use std::alloc::Global;
 use std::sync::Wait;
 use std::thread::Threads;
 
-// Loads a machine and runs a document's program on it: how often each domain began, and why the root escalated, where it did.
-pub(crate) fn run_machine<R: Threads + Wait + Sync, F: Field>(
+// Loads a machine and has a document's program run on it: how often each domain began, and why the root escalated, where it did. Where
+// memory ran out, the engine has counted the run or has not.
+pub(crate) fn run_machine<R: Threads + Wait + Sync, F: Field, E: Engine>(
     rt: &R,
     alloc: Global,
     workers: u32,
@@ -30,9 +29,14 @@ pub(crate) fn run_machine<R: Threads + Wait + Sync, F: Field>(
     plan: &Plan,
     script: &Script,
     machine: &mut F,
+    engine: &mut E,
 ) -> Result<(Begins, Option<Cause>), NoMemory>
-    requires { IsPassed document.now plan.now script.now }
-    ensures { IfOk result (λ ran. HasRun document.now script.now (F.model machine.new) ran.0 ran.1) }
+    requires passed { IsPassed document.now plan.now script.now }
+    requires some { 0 < workers }
+    requires most { workers ≤ 64 }
+    ensures ran { IfOk result (λ ran. HasRun document.now script.now (F.model machine.new) ran.0 ran.1) }
+    ensures counted { OnOk result (IsCounted document.now script.now (E.begins engine.old) (E.begins engine.new)) }
+    ensures stopped { OnErr result ((E.begins engine.new ≡ E.begins engine.old) ⊎ IsCounted document.now script.now (E.begins engine.old) (E.begins engine.new)) }
 {
     cd_cover::laws::outer_references_lead_out();
     cd_cover::laws::subtrees_are_seen_on_paths();
@@ -40,7 +44,7 @@ pub(crate) fn run_machine<R: Threads + Wait + Sync, F: Field>(
     laws::each_domain_is_as_its_program();
     laws::declared_kinds_are_found_at_the_root();
     let part = root_part(document, plan, script, machine)?;
-    let outcome = run_part(rt, alloc, workers, plan, part)?;
+    let outcome = run_part(rt, alloc, workers, plan, part, engine)?;
     let ran = take_back(machine, outcome)?;
     Ok(ran)
 }
@@ -64,41 +68,27 @@ fn root_part<F: Field>(
     Ok(part)
 }
 
-// Runs the program on the part of a machine that its root reaches, with as many blocks, and as much room for copies, as the root
-// needs.
-fn run_part<R: Threads + Wait + Sync, F: Field>(
+// Has the engine run the program on the part of a machine that its root reaches, with as many blocks, and as much room for copies,
+// as the root needs.
+fn run_part<R: Threads + Wait + Sync, F: Field, E: Engine>(
     rt: &R,
     alloc: Global,
     workers: u32,
     plan: &Plan,
     part: F,
+    engine: &mut E,
 ) -> Result<Outcome<F>, NoMemory>
-    requires { CanRun plan.now (F.model part) }
+    requires can { CanRun plan.now (F.model part) }
+    requires some { 0 < workers }
+    requires most { workers ≤ 64 }
     ensures ran { IfOk result (RanTo F.model plan.now (F.model part)) }
     ensures few { IfOk result (FewBegins (F.model part)) }
+    ensures counted { IfOk result (λ outcome. E.begins engine.new ≡ counted (E.begins engine.old) (begins_of outcome)) }
+    ensures stays { OnErr result (E.begins engine.new ≡ E.begins engine.old) }
 {
     let need = whole_need(plan);
     let pass = LeasePass::open(alloc, need.max(1), need)?;
-    run_with(rt, alloc, workers, plan, part, pass)
-}
-
-// Runs it with a pass that has the room: by one worker through the cells, by more with threads for the members of a group.
-fn run_with<R: Threads + Wait + Sync, F: Field, P: Pass>(
-    rt: &R,
-    alloc: Global,
-    workers: u32,
-    plan: &Plan,
-    part: F,
-    pass: P,
-) -> Result<Outcome<F>, NoMemory>
-    requires { CanStart plan.now (F.model part) (P.model pass) }
-    ensures ran { IfOk result (RanTo F.model plan.now (F.model part)) }
-    ensures few { IfOk result (FewBegins (F.model part)) }
-{
-    if workers == 1 {
-        return run_alone(rt, alloc, plan, part, pass);
-    }
-    run_root(rt, alloc, plan, part, pass, workers)
+    engine.run_root(rt, alloc, plan, part, pass, workers)
 }
 
 // Takes the root's part back: after a run that committed with the program's words, after one that was exhausted with those that
