@@ -2,4 +2,3 @@ mod Below
 mod Turning
 mod Lists
 mod Outcomes
-mod RootMachine

@@ -6,6 +6,3 @@ mod siblings;
 mod turns;
 
 pub use run::run_root;
-
-#[cfg(test)]
-mod tests;

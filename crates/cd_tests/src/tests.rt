@@ -15,12 +15,14 @@ macro_rules! refusals {
 }
 
 mod actions;
+mod alike;
 mod calls;
 mod checks;
 mod commands;
 mod documents;
 mod engines;
 mod faults;
+mod gates;
 mod language;
 mod largest;
 mod machines;

@@ -1,5 +1,9 @@
-// Programs of groups, run whole on the shipped machine and pass: what comes of them, with one thread, with two and with eight.
+//! Programs of groups, run whole on the shipped machine by each engine and with each kind of pass: what comes of them, by one worker,
+//! by two and by eight.
 ghost use Rattle.std.specs.Prelude.{◌≡◌, true, length, IfOk};
+ghost use Rattle.cd_core.specs.Running.{RanTo};
+ghost use Rattle.cd_core.specs.StateLaws.{CanStart};
+ghost use Rattle.cd_cover.specs.Plans.{IsPlan};
 ghost use Rattle.cd_tree.specs.Domains.{root_of};
 ghost use Rattle.cd_tree.specs.Meaning.{initial, node_need};
 ghost use Rattle.cd_tree.specs.Scripts.{IsAccepted};
@@ -8,16 +12,16 @@ ghost use Rattle.cd_keep.specs.Arcs.{model_of};
 ghost use Rattle.cd_keep.specs.PassModel.{opened};
 ghost use Rattle.cd_tries.specs.Sample.{sample, HasSample};
 ghost use Rattle.cd_core.specs.Fits.{IsHere};
-ghost use Rattle.cd_fork.specs.Sample.{IsLegible, IsRootMachine, LiesInSample};
+ghost use Rattle.cd_tests.specs.Sample.{IsLegible, IsRootMachine, LiesInSample};
 
-use crate::run_root;
-use crate::turns::is_settled;
 use cd_base::{Items, NoMemory, Pattern, Place, Places, Range, Text};
 use cd_core::Outcome;
 use cd_cover::{Plan, plan};
 use cd_field::{Field, ScriptField};
 use cd_foot::{Footprints, disjoint};
 use cd_keep::{ArcPass, Pass};
+use cd_lease::LeasePass;
+use cd_pool::OpenGate;
 use cd_script::accept;
 use cd_tree::{
     Begins, Domain, Entry, How, Item, Kind, KindName, Kinds, NodeId, Op, RawFault, RawScript,
@@ -261,7 +265,96 @@ fn pass_of(alloc: Global, plan: &Plan) -> Result<ArcPass, Fail>
     Ok(ArcPass::open(alloc, plan.need(NodeId(0)))?)
 }
 
+// A plan is sound.
+fn is_settled(plan: &Plan)
+    ensures { IsPlan plan.now }
+{
+    prove!(0 < plan.tree().count());
+}
+
 // ---- the run
+
+// By which engine, and with copies in one table of blocks or behind shared pointers.
+#[derive(Clone, Copy, PartialEq, Eq)]
+struct Way {
+    by_pool: bool,
+    leased: bool,
+}
+
+static WAYS: [Way; 4] = [
+    Way {
+        by_pool: false,
+        leased: false,
+    },
+    Way {
+        by_pool: false,
+        leased: true,
+    },
+    Way {
+        by_pool: true,
+        leased: false,
+    },
+    Way {
+        by_pool: true,
+        leased: true,
+    },
+];
+
+fn run_by<R: Threads + Wait + Sync, F: Field, P: Pass>(
+    rt: &R,
+    alloc: Global,
+    plan: &Plan,
+    field: F,
+    pass: P,
+    by_pool: bool,
+    workers: u32,
+) -> Result<Outcome<F>, NoMemory>
+    requires { CanStart plan.now (F.model field) (P.model pass) }
+    ensures { IfOk result (RanTo F.model plan.now (F.model field)) }
+{
+    if by_pool {
+        let workers = workers.clamp(1, 64);
+        return cd_pool::run_root(rt, alloc, plan, field, pass, workers, &OpenGate);
+    }
+    cd_fork::run_root(rt, alloc, plan, field, pass, workers)
+}
+
+// With copies behind shared pointers.
+fn run_shared<R: Threads + Wait + Sync, F: Field>(
+    rt: &R,
+    alloc: Global,
+    plan: &Plan,
+    field: F,
+    by_pool: bool,
+    workers: u32,
+) -> Result<Outcome<F>, Fail>
+    requires { IsRootMachine plan.now (F.model field) }
+    ensures { IfOk result (RanTo F.model plan.now (F.model field)) }
+{
+    is_settled(plan);
+    let pass = pass_of(alloc, plan)?;
+    let outcome = run_by(rt, alloc, plan, field, pass, by_pool, workers)?;
+    Ok(outcome)
+}
+
+// With copies in a table of as many blocks as the root needs.
+fn run_leased<R: Threads + Wait + Sync, F: Field>(
+    rt: &R,
+    alloc: Global,
+    plan: &Plan,
+    field: F,
+    by_pool: bool,
+    workers: u32,
+) -> Result<Outcome<F>, Fail>
+    requires { IsRootMachine plan.now (F.model field) }
+    ensures { IfOk result (RanTo F.model plan.now (F.model field)) }
+{
+    is_settled(plan);
+    let need = plan.need(NodeId(0));
+    let pass = LeasePass::open(alloc, need.max(1), need)?;
+    let outcome = run_by(rt, alloc, plan, field, pass, by_pool, workers)?;
+    Ok(outcome)
+}
 
 fn run_with<R: Threads + Wait + Sync, F: Field>(
     rt: &R,
@@ -269,6 +362,7 @@ fn run_with<R: Threads + Wait + Sync, F: Field>(
     plan: &Plan,
     script: &Script,
     whole: &mut F,
+    way: Way,
     workers: u32,
 ) -> Result<Outcome<F>, Fail>
     requires accepted { IsAccepted plan.now.tree script.now }
@@ -277,11 +371,12 @@ fn run_with<R: Threads + Wait + Sync, F: Field>(
 {
     is_settled(plan);
     let field = carved(alloc, plan, script, whole)?;
-    let pass = pass_of(alloc, plan)?;
-    match run_root(rt, alloc, plan, field, pass, workers) {
-        Ok(outcome) => Ok(outcome),
-        Err(NoMemory) => Err(Fail::new("no memory")),
+    if way.leased {
+        let outcome = run_leased(rt, alloc, plan, field, way.by_pool, workers)?;
+        return Ok(outcome);
     }
+    let outcome = run_shared(rt, alloc, plan, field, way.by_pool, workers)?;
+    Ok(outcome)
 }
 
 fn machine_of<F>(outcome: &Outcome<F>) -> &F {
@@ -362,21 +457,22 @@ fn shows<F: Field>(plan: &Plan, case: &Case, outcome: &Outcome<F>) -> Result<(),
     }
 }
 
-// Runs a case with one thread and with more, and compares.
+// Runs a case by one worker and by more, each in a way of its own, and compares.
 fn run_case<R: Threads + Wait + Sync>(
     rt: &R,
     alloc: Global,
     plan: &Plan,
     script: &Script,
     case: &Case,
+    way: Way,
     workers: u32,
 ) -> Result<(), Fail>
     requires accepted { IsAccepted plan.now.tree script.now }
     requires within { LiesInSample plan.now }
 {
     let mut whole = ScriptField::empty(alloc);
-    let one = run_with(rt, alloc, plan, script, &mut whole, 1)?;
-    let more = run_with(rt, alloc, plan, script, &mut whole, workers)?;
+    let one = run_with(rt, alloc, plan, script, &mut whole, WAYS[0], 1)?;
+    let more = run_with(rt, alloc, plan, script, &mut whole, way, workers)?;
     shows(plan, case, &one)?;
     shows(plan, case, &more)?;
     match same_record(machine_of(&one), machine_of(&more)) {
@@ -386,13 +482,14 @@ fn run_case<R: Threads + Wait + Sync>(
     }
 }
 
-// Each case with so many workers.
+// Each case in a way, by so many workers.
 fn run_all<R: Threads + Wait + Sync>(
     rt: &R,
     alloc: Global,
     tree: &Tree,
     feet: &Footprints,
     plan: &Plan,
+    way: Way,
     workers: u32,
 ) -> Result<(), Fail>
     requires feet { AreFeet tree.now.domains feet.now }
@@ -401,13 +498,13 @@ fn run_all<R: Threads + Wait + Sync>(
 {
     for case in &TABLE {
         let script = script_of(alloc, tree, feet, case)?;
-        run_case(rt, alloc, plan, &script, case, workers)?;
+        run_case(rt, alloc, plan, &script, case, way, workers)?;
     }
     Ok(())
 }
 
 #[test]
-fn groups_run_alike_with_any_number_of_workers(rt: HostRuntime) -> Result<(), Fail> {
+fn groups_run_alike_by_each_engine_with_any_number_of_workers(rt: HostRuntime) -> Result<(), Fail> {
     let alloc = rt.alloc();
     let tree = program(alloc)?;
     let feet = Footprints::of(alloc, &tree)?;
@@ -420,7 +517,10 @@ fn groups_run_alike_with_any_number_of_workers(rt: HostRuntime) -> Result<(), Fa
     if !lies_in_sample(alloc, &plan)? {
         return Err(Fail::new("other places"));
     }
-    run_all(&rt, alloc, &tree, &feet, &plan, 0)?;
-    run_all(&rt, alloc, &tree, &feet, &plan, 2)?;
-    run_all(&rt, alloc, &tree, &feet, &plan, 8)
+    for way in WAYS {
+        run_all(&rt, alloc, &tree, &feet, &plan, way, 1)?;
+        run_all(&rt, alloc, &tree, &feet, &plan, way, 2)?;
+        run_all(&rt, alloc, &tree, &feet, &plan, way, 8)?;
+    }
+    Ok(())
 }

@@ -1,6 +1,6 @@
 use Rattle.std.proofs.Common.{◌∙◌, sym}
-use Rattle.cd_fork.proofs.RootMachine.{root_reach}
-use Rattle.cd_fork.proofs.tests.word_at.Goals as goal
+use Rattle.cd_tests.proofs.RootMachine.{root_reach}
+use Rattle.cd_tests.proofs.tests.alike.word_at.Goals as goal
 
 pub read-requires : goal.read-requires
 read-requires g c =

@@ -2,8 +2,8 @@ use Rattle.std.proofs.Common.{◌∙◌, sym}
 use Rattle.std.proofs.lemmas.Bool.{or_left, or_right}
 use Rattle.cd_tree.specs.Domains.{root_of}
 use Rattle.cd_tree.specs.Meaning.{node_reads, node_writes}
-use Rattle.cd_fork.proofs.RootMachine.{loaded_present, root_machine, root_reads, root_writes}
-use Rattle.cd_fork.proofs.tests.carved.Goals as goal
+use Rattle.cd_tests.proofs.RootMachine.{loaded_present, root_machine, root_reads, root_writes}
+use Rattle.cd_tests.proofs.tests.alike.carved.Goals as goal
 
 pub carve-requires-clause-reads : goal.carve-requires-clause-reads
 carve-requires-clause-reads g c p h =

@@ -26,7 +26,7 @@ use Rattle.cd_core.specs.Fits.{IsHere}
 use Rattle.cd_core.specs.Steps.{root_task}
 use Rattle.cd_core.specs.Tasks.{task_reading}
 use Rattle.cd_core.specs.Running.{Ran, RanTo}
-use Rattle.cd_fork.specs.Sample.{IsLegible, IsRootMachine, LiesInSample}
+use Rattle.cd_tests.specs.Sample.{IsLegible, IsRootMachine, LiesInSample}
 
 -- ---- footprints
 

@@ -1,6 +1,6 @@
 use Rattle.std.proofs.Common.{not, ◌∙◌, ap}
-use Rattle.cd_fork.proofs.RootMachine.{lies, root_reach}
-use Rattle.cd_fork.proofs.tests.lies_in_sample.Goals as goal
+use Rattle.cd_tests.proofs.RootMachine.{lies, root_reach}
+use Rattle.cd_tests.proofs.tests.alike.lies_in_sample.Goals as goal
 
 pub returns : goal.returns
 returns c is p =
