@@ -15,6 +15,7 @@ macro_rules! refusals {
 }
 
 mod actions;
+mod board;
 mod calls;
 mod checks;
 mod commands;
@@ -22,9 +23,12 @@ mod documents;
 mod faults;
 mod language;
 mod largest;
+mod machine_calls;
 mod machines;
+mod parts;
 mod refusals;
 mod reports;
 mod runs;
 mod shapes;
 mod texts;
+mod trials;
