@@ -1,10 +1,10 @@
 #!/usr/bin/env python3
 """Refuses allocations of the tests of a crate, one in each run: a test may then fail for want of memory, and no run may fault or hang.
 
-    machines.py [--crate NAME] [--first N] [--step N] [--jobs N] [--try N..]
+    machines.py [--crate NAME] [--modules NAME..] [--first N] [--step N] [--jobs N] [--try N..]
 
-The crate is cd_field if none is given, whose tests take each growth of a record, of its list of parts and of flags, and each room for a
-copy of words that are shared. The tests are those that `rt test` has built. Of each test the first 1,000 allocations (or those
+The tests are those of machines in cd_tests if nothing else is given: they take each growth of a record, of its list of parts and of flags, and each
+room for a copy of words that are shared. Of another crate they are all, or those of some modules. `rt test` has built them. Of each test the first 1,000 allocations (or those
 of `--first`) are refused, and from there on each 50th (or those of `--step`), by the library of `refusing.c`. A run has to end as a
 test that failed. `--try` goes through these numbers with `rt try --test --fail-alloc`, which also looks at each access, and builds the
 tests anew each time. Run by hand. The last line is `N passed, M failed`, and the status is 1 where one failed.
@@ -19,15 +19,18 @@ import tempfile
 
 from allocations import SECONDS, SHOWN, TOP, built, call
 
+# The modules of cd_tests whose tests are of machines.
+OF_MACHINES = ['machine_calls', 'trials']
 # The status of a test that failed, and what `rt try` ends with where one did.
 FAILED = 101
 FAULTED = (2, 3, 4, 5, 6)
 
 
-def names(program):
-    """The tests of the program."""
+def names(program, modules):
+    """The tests of the program in these modules, or all where none is named."""
     listed = subprocess.run([program, '--list'], capture_output=True, text=True, timeout=SECONDS, check=True).stdout
-    return [line.removesuffix(': test') for line in listed.splitlines() if line.endswith(': test')]
+    found = [line.removesuffix(': test') for line in listed.splitlines() if line.endswith(': test')]
+    return [name for name in found if not modules or set(modules) & set(name.split('::')[:-1])]
 
 
 def numbers(count, first, step):
@@ -54,12 +57,15 @@ def tried(crate, number):
 
 def main():
     parser = argparse.ArgumentParser(description='Refuses allocations of the tests of a crate in turn.')
-    parser.add_argument('--crate', default='cd_field')
+    parser.add_argument('--crate', default='cd_tests')
+    parser.add_argument('--modules', nargs='*')
     parser.add_argument('--first', type=int, default=1000)
     parser.add_argument('--step', type=int, default=50)
     parser.add_argument('--jobs', type=int, default=os.cpu_count() or 1)
     parser.add_argument('--try', dest='tries', type=int, nargs='*', default=[])
     given = parser.parse_args()
+    if given.modules is None:
+        given.modules = OF_MACHINES if given.crate == 'cd_tests' else []
     program = os.path.join(TOP, 'crates', given.crate, 'out', given.crate + '_tests')
     if not os.access(program, os.X_OK):
         print(f'the tests are not built: rt test {given.crate}')
@@ -72,7 +78,7 @@ def main():
             print('0 passed, 0 failed')
             return 0
         runs = []
-        for name in names(program):
+        for name in names(program, given.modules):
             status, _, told = call(program, [name], '', LD_PRELOAD=library, REFUSED_CALL='0')
             count = told.count(b'.') if status == 0 else 0
             print(f'{name}: {count} allocations')

@@ -33,10 +33,3 @@ mod words;
 pub use field::Field;
 pub use map_field::MapField;
 pub use script_field::ScriptField;
-
-#[cfg(test)]
-mod board;
-#[cfg(test)]
-mod tests;
-#[cfg(test)]
-mod trials;

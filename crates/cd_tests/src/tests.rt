@@ -16,6 +16,7 @@ macro_rules! refusals {
 
 mod actions;
 mod alike;
+mod board;
 mod calls;
 mod checks;
 mod commands;
@@ -25,9 +26,12 @@ mod faults;
 mod gates;
 mod language;
 mod largest;
+mod machine_calls;
 mod machines;
+mod parts;
 mod refusals;
 mod reports;
 mod runs;
 mod shapes;
 mod texts;
+mod trials;

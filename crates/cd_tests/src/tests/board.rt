@@ -1,11 +1,12 @@
-// The board that the tests run on, a hundred words and two, and what is expected of a machine that has it.
-ghost use Rattle.std.specs.Prelude.{◌≡◌, ◌<◌, true, [], ◌∷◌, All, IsSome, OnOk, IfOk};
+//! The board that the tests run on, a hundred words and two, and what is expected of a machine that has it.
+
+ghost use Rattle.std.specs.Prelude.{◌≡◌, ◌+◌, ◌<◌, ◌^◌, true, [], ◌∷◌, All, IsSome, OnOk, IfOk, length};
 ghost use Rattle.cd_base.specs.Words.{in_ranges};
 ghost use Rattle.cd_tree.specs.Meaning.{initial};
 ghost use Rattle.cd_field.specs.Trials.{board, IsAimed, IsReady};
 
-use crate::Field;
 use cd_base::{Items, Pattern, Place, Places, Range, Text};
+use cd_field::Field;
 use cd_tree::{Event, Fault, Kind, Kinds, NodeId, Region, Regions, Script};
 use std::alloc::Global;
 use std::test::Fail;
@@ -29,6 +30,18 @@ pub(crate) fn places(alloc: Global, low: u32, high: u32) -> Result<Places, Fail>
         high,
     })?;
     Ok(places)
+}
+
+/// Two places of the first region.
+pub(crate) fn two_from(low: u32) -> Range
+    requires { low < 100 }
+    ensures { result ≡ record { region = 0; low = low; high = low + 2 } }
+{
+    Range {
+        region: 0,
+        low,
+        high: low + 2,
+    }
 }
 
 /// The whole board.
@@ -94,6 +107,15 @@ pub(crate) fn fault(begin: u64, item: u32, kind: u8, index: u32, mask: u64) -> F
         place: place(index),
         mask,
     }
+}
+
+/// A script of faults.
+pub(crate) fn script_of(alloc: Global, faults: &[Fault]) -> Result<Script, Fail>
+    requires few { length faults.now < 2 ^ 32 }
+    requires aimed { All IsAimed faults.now }
+    ensures { IfOk result (λ script. All IsAimed script) }
+{
+    Ok(Items::of(Vec::from_slice(alloc, faults)?))
 }
 
 /// The first four words and the two.

@@ -1,7 +1,7 @@
 use Rattle.std.proofs.Common.{◌≡◌, false, subst, sym}
 use Rattle.cd_tree.specs.declared.event.Event.{Event}
 use Rattle.cd_field.specs.FieldModel.{FieldModel, CanAbsorb, told}
-use Rattle.cd_field.proofs.tests.remembers_many.Goals as goal
+use Rattle.cd_tests.proofs.tests.machine_calls.remembers_many.Goals as goal
 
 still_absorbs : (m part later after : FieldModel) (e f : Event) → later ≡ told m e → after ≡ told part f → CanAbsorb m part false
     → CanAbsorb later after false

@@ -1,5 +1,5 @@
-use Rattle.cd_field.proofs.TrialLemmas.{whole_present, none_present, part_ready, rest_ready}
-use Rattle.cd_field.proofs.trials.part_of_board.Goals as goal
+use Rattle.cd_tests.proofs.TrialLemmas.{whole_present, none_present, part_ready, rest_ready}
+use Rattle.cd_tests.proofs.tests.parts.part_of_board.Goals as goal
 
 pub carve-requires-clause-reads : goal.carve-requires-clause-reads
 carve-requires-clause-reads g c =

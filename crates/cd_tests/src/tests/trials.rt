@@ -1,11 +1,13 @@
-// One long random sequence of calls, made on both machines, which give the same at each step.
+//! One long random sequence of calls, made on both machines, which give the same at each step.
+
 ghost use Rattle.std.specs.Prelude.{◌≡◌, ◌<◌, true, All, OnOk, IfOk};
 ghost use Rattle.cd_base.specs.Words.{in_ranges};
-ghost use Rattle.cd_field.specs.Trials.{board, IsAimed, IsReady, IsSame, HasLent, MayComeBack};
+ghost use Rattle.cd_field.specs.Trials.{board, IsAimed, IsReady, IsSame};
 
-use crate::board::{fault, load_board, look, place, places, whole_board};
-use crate::{Field, MapField, ScriptField};
-use cd_base::{Items, Pattern, Place, Places, Range};
+use super::board::{expect_event, fault, load_board, look, script_of};
+use super::parts::{come_back, hand_over, part_of_board, part_to_write};
+use cd_base::{Pattern, Place, Range};
+use cd_field::{Field, MapField, ScriptField};
 use cd_tree::{Kept, Kind, NodeId, Script};
 use std::alloc::Global;
 use std::test::Fail;
@@ -46,15 +48,16 @@ fn pick_place(random: u64) -> Place
 fn some_faults(alloc: Global) -> Result<Script, Fail>
     ensures { IfOk result (λ script. All IsAimed script) }
 {
-    let mut script = Items::new(alloc);
-    script.push(fault(1, 0, 1, 0, 255))?;
-    script.push(fault(1, 0, 2, 3, 258))?;
-    script.push(fault(2, 1, 3, 1, 256))?;
-    script.push(fault(1, 0, 4, 0, 255))?;
-    script.push(fault(2, 2, 1, 2, 257))?;
-    script.push(fault(0, 1, 2, 2, 17))?;
-    script.push(fault(0, 2, 3, 0, 33))?;
-    Ok(script)
+    let faults = [
+        fault(1, 0, 1, 0, 255),
+        fault(1, 0, 2, 3, 258),
+        fault(2, 1, 3, 1, 256),
+        fault(1, 0, 4, 0, 255),
+        fault(2, 2, 1, 2, 257),
+        fault(0, 1, 2, 2, 17),
+        fault(0, 2, 3, 0, 33),
+    ];
+    script_of(alloc, &faults)
 }
 
 // A call that changes words.
@@ -118,73 +121,38 @@ fn tell_entry<F: Field>(field: &mut F, random: u64) -> Result<(), Fail>
     requires { IsReady (F.model field.old) }
     ensures { OnOk result (IsReady (F.model field.new)) }
 {
-    let place = pick_place(random);
     let entry = pick(random, 1 << 32, 3) as u32;
-    let found = field.read(place);
     match pick(random, 1 << 40, 4) {
         0 => field.saved(entry, Kept::Copy)?,
         1 => field.refilled(entry)?,
-        2 if found != random => field.fell(entry, place, random)?,
-        _ if found != random => field.lapsed(entry, random, found)?,
-        _ => field.refilled(entry)?,
+        2 => tell_fall(field, entry, pick_place(random), random)?,
+        _ => {
+            let seen = pick(random, 1 << 36, 9);
+            field.lapsed(entry, seen, seen + 1)?;
+        }
     }
     Ok(())
 }
 
-// A part is carved out to write one word, writes it, tells of it, and comes back, with commit or without; then the word
-// is put back.
-fn hand_over<F: Field>(field: &mut F, alloc: Global, random: u64) -> Result<(), Fail>
-    requires { IsReady (F.model field.old) }
+// The word of a place is not the one that is wanted.
+fn tell_fall<F: Field>(field: &mut F, entry: u32, place: Place, wanted: u64) -> Result<(), Fail>
+    requires ready { IsReady (F.model field.old) }
+    requires within { in_ranges board place ≡ true }
     ensures { OnOk result (IsReady (F.model field.new)) }
 {
-    let low = pick(random, 1 << 40, 3) as u32;
-    let index = pick(random, 1 << 36, 4) as u32;
-    let commit = pick(random, 1 << 32, 2) == 0;
-    let place = Place { region: 0, index };
-    let reads = places(alloc, low, low + 2)?;
-    let writes = places(alloc, index, index + 1)?;
-    let mut part = field.carve(&reads, &writes)?;
-    part.begin(NodeId(1), random)?;
-    part.write(place, random);
-    part.complete()?;
-    field.absorb(part, commit)?;
-    if !commit {
-        field.refill(place, random);
+    if field.read(place) != wanted {
+        field.fell(entry, place, wanted)?;
     }
     Ok(())
 }
 
-// A part that has the whole board, and shares it but for one word, which is its to write.
-fn part_to_write<F: Field>(field: &mut F, alloc: Global, index: u32) -> Result<F, Fail>
-    requires ready { IsReady (F.model field.old) }
-    requires within { index < 4 }
-    ensures ready { IfOk result (λ part. IsReady (F.model part)) }
-    ensures mine { IfOk result (λ part. MayComeBack (F.model field.new) (F.model part) index) }
-    ensures lent { OnOk result (HasLent (F.model field.new) index) }
-    ensures same { OnOk result (IsSame (F.model field.old) (F.model field.new)) }
-{
-    let reads = whole_board(alloc)?;
-    let writes = places(alloc, index, index + 1)?;
-    let part = field.carve(&reads, &writes)?;
-    Ok(part)
-}
-
-// A part comes back, with commit or without; its word is here then.
-fn come_back<F: Field>(field: &mut F, part: F, index: u32, random: u64) -> Result<(), Fail>
-    requires within { index < 4 }
-    requires lent { HasLent (F.model field.old) index }
-    requires ready { IsReady (F.model part) }
-    requires mine { MayComeBack (F.model field.old) (F.model part) index }
-    ensures ready { OnOk result (IsReady (F.model field.new)) }
-    ensures same { OnOk result (IsSame (F.model field.old) (F.model field.new)) }
-{
+// Whether a part comes back with commit; if not, the word that is put back.
+fn word_back(random: u64) -> Option<u64> {
     if pick(random, 1 << 32, 2) == 0 {
-        field.absorb(part, true)?;
+        None
     } else {
-        field.absorb(part, false)?;
-        field.refill(place(index), random);
+        Some(random)
     }
-    Ok(())
 }
 
 // A part changes words that it shares, has such a part of its own, as deep as is asked, and comes back.
@@ -200,7 +168,7 @@ fn hand_down<F: Field>(field: &mut F, alloc: Global, random: u64, depth: u32) ->
     let index = pick(random, 1 << 36, 4) as u32;
     let mut part = part_to_write(field, alloc, index)?;
     hand_down(&mut part, alloc, next(random), depth - 1)?;
-    come_back(field, part, index, random)?;
+    come_back(field, part, index, word_back(random))?;
     Ok(())
 }
 
@@ -209,7 +177,14 @@ fn step<F: Field>(field: &mut F, alloc: Global, random: u64) -> Result<(), Fail>
     ensures { OnOk result (IsReady (F.model field.new)) }
 {
     match pick(random, 1 << 56, 8) {
-        0 => hand_over(field, alloc, random)?,
+        0 => hand_over(
+            field,
+            alloc,
+            pick(random, 1 << 40, 3) as u32,
+            pick(random, 1 << 36, 3) as u32,
+            random,
+            pick(random, 1 << 32, 2) == 0,
+        )?,
         1 => tell_entry(field, random)?,
         2 => tell_end(field, random)?,
         3 => change_run(field, random)?,
@@ -222,11 +197,8 @@ fn step<F: Field>(field: &mut F, alloc: Global, random: u64) -> Result<(), Fail>
 // Whether both machines have an event of a number; it is the same.
 fn same_event<F: Field, G: Field>(field: &F, other: &G, k: u64) -> Result<bool, Fail> {
     let event = field.event(k);
-    if event == other.event(k) {
-        Ok(event.is_some())
-    } else {
-        Err(Fail::new(format_args!("event {k}")))
-    }
+    expect_event(other, k, event)?;
+    Ok(event.is_some())
 }
 
 // Both machines give the same: the words, the notes, and the events from a number on, up to one that neither has. A turn
@@ -257,18 +229,6 @@ fn agree_at_the_end<F: Field, G: Field>(field: &F, other: &G, count: u64) -> Res
         return Err(Fail::new(format_args!("{count} events")));
     }
     Ok(())
-}
-
-// A part that reads the whole board and was carved to write nothing.
-fn part_of_board<F: Field>(field: &mut F, alloc: Global) -> Result<F, Fail>
-    requires { IsReady (F.model field.old) }
-    ensures part { IfOk result (λ part. IsReady (F.model part)) }
-    ensures rest { OnOk result (IsReady (F.model field.new)) }
-{
-    let reads = whole_board(alloc)?;
-    let none = Places::new(alloc);
-    let part = field.carve(&reads, &none)?;
-    Ok(part)
 }
 
 // One call on both machines.

@@ -1,5 +1,5 @@
-use Rattle.cd_field.proofs.TrialLemmas.{part_there}
-use Rattle.cd_field.proofs.tests.carve_two.Goals as goal
+use Rattle.cd_tests.proofs.TrialLemmas.{part_there}
+use Rattle.cd_tests.proofs.tests.machine_calls.carve_two.Goals as goal
 
 pub returns : goal.returns
 returns g c =

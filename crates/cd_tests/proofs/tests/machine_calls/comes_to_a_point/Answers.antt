@@ -1,5 +1,5 @@
-use Rattle.cd_field.proofs.TrialLemmas.{hits_present, ready_begun, ready_reached, ready_wrote}
-use Rattle.cd_field.proofs.tests.comes_to_a_point.Goals as goal
+use Rattle.cd_tests.proofs.TrialLemmas.{hits_present, ready_begun, ready_reached, ready_wrote}
+use Rattle.cd_tests.proofs.tests.machine_calls.comes_to_a_point.Goals as goal
 
 pub reached-requires : goal.reached-requires
 reached-requires g c =

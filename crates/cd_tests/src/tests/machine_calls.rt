@@ -1,28 +1,22 @@
-// Each call of a machine, on the plain machine and on the shipped one.
-ghost use Rattle.std.specs.Prelude.{◌≡◌, [], ◌∷◌, All, OnOk, IfOk};
+//! Each call of a machine, on the plain machine and on the shipped one.
+
+ghost use Rattle.std.specs.Prelude.{◌≡◌, [], ◌∷◌, OnOk, IfOk};
 ghost use Rattle.cd_field.specs.FieldModel.{ArePresent};
 ghost use Rattle.cd_field.specs.FlatMachine.{flat_machine};
-ghost use Rattle.cd_field.specs.Trials.{IsAimed, IsReady};
+ghost use Rattle.cd_field.specs.Trials.{IsReady, IsSame};
 
-use crate::board::{
+use super::board::{
     expect_event, expect_events, expect_note, expect_words, fault, load_board, place, places,
+    script_of,
 };
-use crate::{Field, MapField, ScriptField};
+use super::parts::{come_back, hand_over, part_to_write};
 use cd_base::{Items, Pattern, Range};
-use cd_tree::{Event, Kept, Kind, Kinds, NodeId, Script};
+use cd_field::{Field, MapField, ScriptField};
+use cd_tree::{Event, Kept, Kind, Kinds, NodeId};
 use std::alloc::Global;
 use std::test::Fail;
 
 const NINES: Pattern = Pattern::Const(9);
-
-// At the root's first begin, before the first item, a fault of kind 2 strikes the second word.
-fn one_fault(alloc: Global) -> Result<Script, Fail>
-    ensures { IfOk result (λ script. All IsAimed script) }
-{
-    let mut script = Items::new(alloc);
-    script.push(fault(1, 0, 2, 1, 5))?;
-    Ok(script)
-}
 
 // The root begins, the first word changes, and the first point is reached.
 fn comes_to_a_point<F: Field>(field: &mut F, number: u64) -> Result<(), Fail>
@@ -35,12 +29,14 @@ fn comes_to_a_point<F: Field>(field: &mut F, number: u64) -> Result<(), Fail>
     Ok(())
 }
 
-// A fault strikes once, its kind is noted, and the next begin forgets it.
+// Before the first item of the root's first begin a fault of kind 2 strikes the second word, once; its kind is noted, and the
+// next begin forgets it.
 fn strikes<F: Field>(field: &mut F, alloc: Global) -> Result<(), Fail>
     ensures { OnOk result (IsReady (F.model field.new)) }
 {
     let node = NodeId(0);
-    load_board(field, alloc, NINES, &one_fault(alloc)?)?;
+    let script = script_of(alloc, &[fault(1, 0, 2, 1, 5)])?;
+    load_board(field, alloc, NINES, &script)?;
     expect_words(field, [9, 9, 9, 9])?;
     comes_to_a_point(field, 1)?;
     expect_words(field, [4, 12, 9, 9])?;
@@ -111,58 +107,61 @@ fn tells<F: Field>(field: &mut F) -> Result<(), Fail>
     expect_events(field, 4, &told)
 }
 
-// What a part wrote comes back with commit, and stays lost without.
-fn carves<F: Field>(field: &mut F, alloc: Global) -> Result<(), Fail> {
-    load_board(field, alloc, NINES, &one_fault(alloc)?)?;
-    let reads = places(alloc, 0, 2)?;
-    let writes = places(alloc, 2, 4)?;
-    let mut part = field.carve(&reads, &writes)?;
-    part.write(place(3), 8);
-    part.complete()?;
-    field.absorb(part, true)?;
-    expect_words(field, [9, 9, 9, 8])?;
-    let mut part = field.carve(&reads, &writes)?;
-    part.write(place(2), 1);
-    field.absorb(part, false)?;
-    field.refill(place(2), 6);
-    if field.read(place(2)) != 6 {
-        return Err(Fail::new("the word that was put back is another"));
-    }
-    expect_events(field, 0, &[Event::Complete { node: NodeId(0) }])
+// A part begins, a part of it changes the second word, and it comes back.
+fn lets_work<F: Field>(part: &mut F, alloc: Global) -> Result<(), Fail>
+    requires { IsReady (F.model part.old) }
+    ensures ready { OnOk result (IsReady (F.model part.new)) }
+    ensures same { OnOk result (IsSame (F.model part.old) (F.model part.new)) }
+{
+    part.begin(NodeId(2), 1)?;
+    let mut inner = part_to_write(part, alloc, 1)?;
+    works(&mut inner)?;
+    come_back(part, inner, 1, None)?;
+    expect_words(part, [9, 77, 6, !6])
 }
 
-// A part is carved out of a part, over a place of both, and each comes back.
-fn carves_twice<F: Field>(field: &mut F, alloc: Global) -> Result<(), Fail> {
-    load_board(field, alloc, NINES, &Items::new(alloc))?;
-    let reads = places(alloc, 0, 3)?;
-    let writes = places(alloc, 1, 2)?;
-    let mut part = field.carve(&reads, &writes)?;
-    part.begin(NodeId(1), 1)?;
-    let mut inner = part.carve(&writes, &writes)?;
-    inner.begin(NodeId(2), 1)?;
-    inner.write(place(1), 77);
-    inner.complete()?;
-    part.absorb(inner, true)?;
+// The part of the part.
+fn works<F: Field>(part: &mut F) -> Result<(), Fail>
+    requires { IsReady (F.model part.old) }
+    ensures ready { OnOk result (IsReady (F.model part.new)) }
+    ensures same { OnOk result (IsSame (F.model part.old) (F.model part.new)) }
+{
+    part.begin(NodeId(3), 1)?;
+    part.write(place(1), 77);
     part.complete()?;
-    let words = [part.read(place(0)), part.read(place(1))];
-    field.absorb(part, true)?;
-    if words != [9, 77] {
-        return Err(Fail::new("the part has other words"));
-    }
-    expect_words(field, [9, 77, 9, 9])?;
+    Ok(())
+}
+
+// What a part, and a part of a part, wrote comes back with commit. What a part wrote that comes back without is put back.
+fn carves<F: Field>(field: &mut F, alloc: Global) -> Result<(), Fail> {
+    load_board(field, alloc, NINES, &Items::new(alloc))?;
+    hand_over(field, alloc, 0, 2, 8, true)?;
+    expect_words(field, [9, 9, 8, 9])?;
+    hand_over(field, alloc, 1, 2, 6, false)?;
+    expect_words(field, [9, 9, 6, !6])?;
+    let mut part = part_to_write(field, alloc, 1)?;
+    lets_work(&mut part, alloc)?;
+    come_back(field, part, 1, None)?;
+    expect_words(field, [9, 77, 6, !6])?;
     let told = [
-        Event::Begin {
-            node: NodeId(1),
-            number: 1,
-        },
-        Event::Begin {
-            node: NodeId(2),
-            number: 1,
-        },
-        Event::Complete { node: NodeId(2) },
-        Event::Complete { node: NodeId(1) },
+        begin(1, 8),
+        complete(1),
+        begin(1, 6),
+        complete(1),
+        begin(2, 1),
+        begin(3, 1),
+        complete(3),
     ];
     expect_events(field, 0, &told)
+}
+
+fn begin(node: u32, number: u64) -> Event {
+    let node = NodeId(node);
+    Event::Begin { node, number }
+}
+
+fn complete(node: u32) -> Event {
+    Event::Complete { node: NodeId(node) }
 }
 
 // A long record, in a part and behind it.
@@ -198,7 +197,6 @@ fn meets_its_calls<F: Field>(field: &mut F, alloc: Global) -> Result<(), Fail> {
     strikes(field, alloc)?;
     tells(field)?;
     carves(field, alloc)?;
-    carves_twice(field, alloc)?;
     remembers_many(field, alloc)?;
     Ok(())
 }

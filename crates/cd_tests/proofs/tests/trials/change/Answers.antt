@@ -1,7 +1,7 @@
 use Rattle.std.proofs.Common.{refl}
 use Rattle.cd_field.specs.FieldModel.{reached_point}
-use Rattle.cd_field.proofs.TrialLemmas.{hits_present, ready_reached, same_as}
-use Rattle.cd_field.proofs.trials.change.Goals as goal
+use Rattle.cd_tests.proofs.TrialLemmas.{hits_present, ready_reached, same_as}
+use Rattle.cd_tests.proofs.tests.trials.change.Goals as goal
 
 pub reached-requires : goal.reached-requires
 reached-requires g c = hits_present (g.F.Field.model c.args.field.now) c.pick-in_default.result c.requires

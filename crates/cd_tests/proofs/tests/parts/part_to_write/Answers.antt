@@ -1,7 +1,7 @@
 use Rattle.std.proofs.Common.{refl}
 use Rattle.cd_field.specs.FieldModel.{without}
-use Rattle.cd_field.proofs.TrialLemmas.{whole_present, one_present, part_ready, may_come_back, has_lent, same_as}
-use Rattle.cd_field.proofs.trials.part_to_write.Goals as goal
+use Rattle.cd_tests.proofs.TrialLemmas.{whole_present, one_present, part_ready, may_come_back, has_lent, same_as}
+use Rattle.cd_tests.proofs.tests.parts.part_to_write.Goals as goal
 
 pub carve-requires-clause-reads : goal.carve-requires-clause-reads
 carve-requires-clause-reads g c =
