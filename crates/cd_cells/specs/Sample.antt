@@ -1,9 +1,10 @@
--- For tests: a program of one domain, whose states may be anything.
-use Rattle.std.specs.Prelude.{◌≡◌, ℕ, List, [], Some}
+-- For tests: passes at a table for a program of one domain, whose states may be anything.
+use Rattle.std.specs.Prelude.{◌≡◌, ℕ, List, [], ◌∷◌, Option, MatchOption}
+use Rattle.cd_core.specs.declared.ask.Ask.{Ask}
+use Rattle.cd_cells.specs.declared.cell_pass.CellPass.{CellPass}
 use Rattle.cd_cells.specs.Listing.{no_ask}
 use Rattle.cd_cells.specs.Kinds.{Kind}
-use Rattle.cd_cells.specs.Views.{first_view}
-use Rattle.cd_cells.specs.Steps.{Sat, knowing}
+use Rattle.cd_cells.specs.Passes.{PassHas, SameTable}
 
 abbrev pub sample : {T : Type 0} → Kind T
 sample = record {
@@ -18,7 +19,15 @@ sample = record {
   asks = λ t m. no_ask;
 }
 
--- a pass that has been opened
-pub record IsFirst {K T : Type 0} (key : K) (m : Sat K T) : Type 0 where
-  pub name : List ℕ
-  pub is : m ≡ (knowing (first_view (Some key) no_ask) name, [])
+abbrev pub SampleHas : {T : Type 0} → CellPass ℕ T → List Ask → List Ask → Type 0
+SampleHas {T} cells hand may = PassHas (λ (key : ℕ). sample {T = T}) cells hand may
+
+-- a pass at the table of another, with nothing in hand and nothing to post
+pub record IsIdle {T : Type 0} (first cells : CellPass ℕ T) : Type 0 where
+  pub same : SameTable first cells
+  pub has : SampleHas cells [] []
+
+-- a pass at the table of another that tried to claim the root, with the state where it has it
+pub record HasTried {T : Type 0} (first : CellPass ℕ T) (back : CellPass ℕ T × Option T) : Type 0 where
+  pub same : SameTable first back.0
+  pub has : MatchOption back.1 (SampleHas back.0 [] []) (λ state. (ask : Ask) × (ask.node.0 ≡ 0) × SampleHas back.0 (ask ∷ []) [])

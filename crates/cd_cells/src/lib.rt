@@ -33,6 +33,8 @@ mod steps;
 mod tests;
 mod view;
 mod whole;
+#[cfg(test)]
+mod whole_tests;
 mod work;
 
 pub use alone::run_alone;
