@@ -1,2 +1,3 @@
 pub mod Timed
 pub mod Handed
+pub mod GroupedLawful
