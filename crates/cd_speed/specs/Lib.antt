@@ -1,3 +1,4 @@
 -- The files of definitions.
 pub mod Timed
 pub mod Turned
+pub mod Grouped

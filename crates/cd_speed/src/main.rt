@@ -8,17 +8,21 @@
 //! `share`, each of which gives up as often, `hold`, which shares only, or `fetch`; or `split`, which splits off a pass and takes it back,
 //! `later`, which does it in a pass that has kept 10,000 blocks, or `layer`, which does it after each block that is kept.
 //!
+//! `group ROUNDS THREADS` sends the group of a domain through the cells so many rounds, on 1, 2 or 4 threads, and prints how many claims
+//! were won.
+//!
 //! `carve WRITTEN RANGES TURNS` carves out and takes back a part that has so many ranges of a region, where WRITTEN says what it
 //! writes of their words: `all`, `half` or `none`. `share changed TURNS` does it with a part that shares a region and changes one
 //! word of it, `share same TURNS` with one that changes none. `refill field TURNS` and `refill part TURNS` put a region's words back
 //! by one run. `tell field COUNT` tells so many events, `event field COUNT` also reads them back, and `tell list COUNT` and
 //! `event list COUNT` do it with a plain list.
 //!
-//! It has no clock: the scripts `operations.sh`, `passes.sh`, `parts.sh` and `events.sh` of `bench` take the time of many turns and
+//! It has no clock: the scripts `operations.sh`, `passes.sh`, `cells.sh`, `parts.sh` and `events.sh` of `bench` take the time of many turns and
 //! of few.
 #![tactic(auto)]
 
 mod calls;
+mod cells;
 mod copies;
 mod hands;
 mod machine;
@@ -83,6 +87,9 @@ fn sum_of_call<R: Threads + Wait + Sync>(
     alloc: Global,
     words: &[String],
 ) -> Result<Option<u64>, NoMemory> {
+    if let Some((rounds, threads)) = cells::call_of(words) {
+        return Ok(Some(cells::claims_of_threads(rt, alloc, rounds, threads)?));
+    }
     if let Some(call) = shared::call_of(words) {
         return Ok(Some(shared::sum_of_call(rt, alloc, call)?));
     }
