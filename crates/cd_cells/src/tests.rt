@@ -1,5 +1,4 @@
-// Passes at one table: of many claims of a posted domain one wins, and a stop is seen by all. And the root of a program, by hand and
-// by one worker alone.
+// Passes at one small table: of many claims of a posted domain one wins, and a stop is seen by all.
 ghost use Rattle.std.specs.Prelude.{◌≡◌, ◌<◌, ℕ, [], ◌∷◌, All, IfOk, OnOk};
 ghost use Rattle.cd_cells.specs.Listing.{no_ask};
 ghost use Rattle.cd_cells.specs.Passes.{Claims, PassHas, SameTable, key_of};
