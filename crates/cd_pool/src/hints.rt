@@ -1,10 +1,12 @@
 //! What a worker knows of domains that are ready: its own deque, a list of what that refused, and the deques of the others.
-ghost use Rattle.std.specs.Prelude.{◌≡◌, ◌⊎◌, [], ◌∷◌, ◌++◌, OnOk};
+ghost use Rattle.std.specs.Prelude.{◌≡◌, ◌⊎◌, ◌+◌, [], ◌∷◌, ◌++◌, MatchResult, OnOk};
+ghost use Rattle.crossbeam_deque.specs.Handles.{worker_index};
 ghost use Rattle.cd_pool.specs.Hinting.{refused_of};
 
 use cd_base::NoMemory;
 use cd_cells::Hints;
 use cd_tree::NodeId;
+use crossbeam_deque::protocol::Free;
 use crossbeam_deque::{Steal, Stealer, Worker};
 use std::alloc::Global;
 
@@ -51,13 +53,20 @@ impl<'s> WorkerHints<'s> {
 }
 
 impl<'s> Hints for WorkerHints<'s> {
-    // What the deque refuses stays in the spare list.
+    // The deque has one hint more behind; or it refused this one, and that stays in the spare list.
     fn note(&mut self, node: NodeId) -> Result<(), NoMemory>
-        ensures { OnOk result ((self.new.spare.items ≡ self.old.spare.items) ⊎ (self.new.spare.items ≡ self.old.spare.items ++ node ∷ [])) }
+        ensures { OnOk result ((worker_index self.new.own ≡ worker_index self.old.own + 1) ⊎ (self.new.spare.items ≡ self.old.spare.items ++ node ∷ [])) }
     {
-        let pushed = self.own.push(node);
+        let pushed = push(&mut self.own, node);
         set_aside(&mut self.spare, pushed)
     }
+}
+
+// Puts a hint behind a deque, which gives it back where it cannot grow.
+fn push(own: &mut Worker<NodeId>, node: NodeId) -> Result<(), NodeId>
+    ensures { MatchResult result (λ _. worker_index own.new ≡ worker_index own.old + 1) (λ refused. refused ≡ node) }
+{
+    own.push_as::<Free>(node)
 }
 
 // Keeps a hint that a deque refused.
