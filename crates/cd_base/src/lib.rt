@@ -22,8 +22,6 @@ mod places;
 mod sink;
 mod source;
 mod std_ends;
-#[cfg(test)]
-mod tests;
 mod text;
 mod transfer;
 mod united;

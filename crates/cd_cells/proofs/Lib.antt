@@ -17,7 +17,6 @@ pub mod Parting
 pub mod Following
 pub mod Beginning
 pub mod Rows
-pub mod Sampling
 pub mod SendLemmas
 pub mod Gathered
 pub mod HandLemmas

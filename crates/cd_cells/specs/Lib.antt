@@ -9,7 +9,6 @@ pub mod Rule
 pub mod Steps
 pub mod Seats
 pub mod Laws
-pub mod Sample
 -- the states of domains
 pub mod States
 -- what a pass has in hand, and what an arrival comes to

@@ -29,12 +29,8 @@ mod plays;
 mod rule;
 mod start;
 mod steps;
-#[cfg(test)]
-mod tests;
 mod view;
 mod whole;
-#[cfg(test)]
-mod whole_tests;
 mod work;
 
 pub use alone::run_alone;

@@ -15,8 +15,6 @@ mod command;
 mod line;
 mod meaning;
 mod options;
-#[cfg(test)]
-mod tests;
 mod value;
 mod words;
 

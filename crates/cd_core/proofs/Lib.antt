@@ -63,10 +63,9 @@ pub mod Members
 mod KeptRoom
 mod LinksBelow
 mod Apartness
-mod SentFit
+pub mod SentFit
 mod Sends
 mod Moving
-mod GroupTurns
 mod WorkedStates
 mod WorkedReturns
 mod WorkedBounds

@@ -25,6 +25,3 @@ pub mod Returning
 pub mod Bounds
 -- what a run comes to
 pub mod Running
--- what the tests of states run
-pub mod Sample
-pub mod GroupSample

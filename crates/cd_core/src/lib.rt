@@ -35,8 +35,3 @@ mod verdict;
 pub use ask::Ask;
 pub use start::start_root;
 pub use state::{Ending, NodeState, Outcome, Stage, Step};
-
-#[cfg(test)]
-mod group_tests;
-#[cfg(test)]
-mod tests;

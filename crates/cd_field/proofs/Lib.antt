@@ -9,4 +9,3 @@ mod LoadLemmas
 mod PartLemmas
 mod FaultLemmas
 mod EventLemmas
-mod TrialLemmas

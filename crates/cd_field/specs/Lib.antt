@@ -9,4 +9,3 @@ pub mod EventLists
 pub mod FaultOrder
 pub mod SharedFaults
 pub mod FlatMachine
-pub mod Trials

@@ -24,6 +24,3 @@ pub use arc_pass::ArcPass;
 pub use gone_note::GoneNote;
 pub use keep_id::KeepId;
 pub use pass::Pass;
-
-#[cfg(test)]
-mod tests;

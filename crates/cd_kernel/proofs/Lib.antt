@@ -4,4 +4,3 @@ pub mod Steady
 pub mod Turns
 pub mod Runs
 pub mod Rows
-pub mod Boards

@@ -1,3 +1,2 @@
 -- The files of definitions: what operations do to a machine, and the words of the tests.
 pub mod Computing
-pub mod Board

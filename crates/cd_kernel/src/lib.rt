@@ -18,6 +18,3 @@ mod totals;
 mod words;
 
 pub use operations::apply;
-
-#[cfg(test)]
-mod tests;

@@ -13,4 +13,3 @@ pub mod StoreNumbers
 pub mod Held
 pub mod Worked
 pub mod Showing
-pub mod Turning

@@ -10,4 +10,3 @@ pub mod Passes
 pub mod IdProps
 pub mod Leases
 pub mod Laws
-pub mod Turns

@@ -28,6 +28,3 @@ mod view;
 pub use lease_pass::{LeasePass, Try};
 pub use rule::{Leases, Size};
 pub use view::{Look, Miss, Piece, View};
-
-#[cfg(test)]
-mod tests;

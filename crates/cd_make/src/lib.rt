@@ -11,7 +11,5 @@
 #![tactic(auto)]
 
 mod make;
-#[cfg(test)]
-mod tests;
 
 pub use make::write_make;

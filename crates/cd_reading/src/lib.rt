@@ -14,8 +14,6 @@ mod ends;
 mod plain;
 mod steps;
 mod strikes;
-#[cfg(test)]
-mod tests;
 mod through;
 mod walk;
 

@@ -19,8 +19,6 @@ mod record;
 mod refusal;
 mod regions;
 mod run;
-#[cfg(test)]
-mod tests;
 
 pub use accepted::write_accepted;
 pub use lines::{write_read_fault, write_usage};

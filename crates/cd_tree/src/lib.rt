@@ -21,8 +21,6 @@ pub mod limits;
 mod operation;
 mod path;
 mod refusal;
-#[cfg(test)]
-mod tests;
 mod tree;
 
 pub use document::{Document, Fault, RawFault, RawScript, Region, Regions, Script};

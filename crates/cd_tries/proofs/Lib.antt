@@ -18,5 +18,3 @@ pub mod Lapses
 pub mod KeepsLegal
 pub mod KeepsHeld
 pub mod KeepsGiven
-pub mod Sample
-pub mod Board

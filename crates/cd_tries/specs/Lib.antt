@@ -14,7 +14,3 @@ pub mod Fitting
 pub mod KeepLaws
 -- laws: what later tries put back, and what stays
 pub mod TryLaws
--- what the tests of tries run
-pub mod Sample
--- what the tests of preserving run on
-pub mod Board

@@ -33,12 +33,3 @@ pub use preserving::preserve;
 pub use refilling::refill_all;
 pub use shelf::{Level, Shelf};
 pub use tries::{Attempt, Course, Stop, go_on, try_again};
-
-#[cfg(test)]
-mod keep_tests;
-#[cfg(test)]
-mod lapsing;
-#[cfg(test)]
-mod preserve_tests;
-#[cfg(test)]
-mod try_tests;

@@ -1,4 +1,0 @@
-use Rattle.cd_cells.proofs.tests.+stops_below.Given as goal
-
-abbrev pub decreases-stops_below : goal.decreases-stops_below
-decreases-stops_below l = l.more
