@@ -15,7 +15,7 @@ use std::alloc::Global;
 use std::sync::Wait;
 
 /// Keeps the words of a range, from its low end on. The words of a piece stand in a buffer of the call's own meanwhile.
-pub(crate) fn copy_range<F: Field, P: Pass, R: Wait>(
+pub fn copy_range<F: Field, P: Pass, R: Wait>(
     rt: &R,
     alloc: Global,
     range: Range,

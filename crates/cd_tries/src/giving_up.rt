@@ -30,7 +30,7 @@ fn give_up_keep<P: Pass>(keep: &Keep, pass: &mut P)
 }
 
 /// Gives up ids, in order. It takes no memory.
-pub(crate) fn give_up_ids<P: Pass>(ids: &[KeepId], pass: &mut P)
+pub fn give_up_ids<P: Pass>(ids: &[KeepId], pass: &mut P)
     requires { (id : Id) → times_in id ids.now ≤ (P.model pass.old).holds id }
     ensures { P.model pass.new ≡ gave_up_each (P.model pass.old) ids.now }
 {

@@ -26,10 +26,12 @@ mod shelf;
 mod tries;
 pub mod try_laws;
 
-pub use giving_up::give_up_all;
+pub use copying::copy_range;
+pub use giving_up::{give_up_all, give_up_ids};
 pub use keep::{Keep, Pieces};
+pub use patterns::first_other;
 pub use points::Arrival;
-pub use preserving::preserve;
+pub use preserving::{preserve, preserve_entry};
 pub use refilling::refill_all;
 pub use shelf::{Level, Shelf};
 pub use tries::{Attempt, Course, Stop, go_on, try_again};

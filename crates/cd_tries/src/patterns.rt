@@ -8,7 +8,7 @@ use cd_base::{Pattern, Place, Range};
 use cd_field::Field;
 
 /// The least place of a range whose word is not the pattern's, with that word. It takes no memory.
-pub(crate) fn first_other<F: Field>(
+pub fn first_other<F: Field>(
     range: Range,
     pattern: Pattern,
     field: &F,

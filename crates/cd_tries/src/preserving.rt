@@ -74,7 +74,7 @@ fn linked(above: &[Level], up: NodeId, entry: u32) -> Option<&Pieces>
 }
 
 /// Preserves one entry as it is declared, with the pieces of its link, and tells the machine of it.
-pub(crate) fn preserve_entry<F: Field, P: Pass, R: Wait>(
+pub fn preserve_entry<F: Field, P: Pass, R: Wait>(
     rt: &R,
     alloc: Global,
     at: u32,
