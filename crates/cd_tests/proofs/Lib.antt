@@ -1,3 +1,2 @@
 pub mod LookLemmas
-pub mod RootMachine
 pub mod TrialLemmas

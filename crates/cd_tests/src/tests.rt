@@ -15,7 +15,6 @@ macro_rules! refusals {
 }
 
 mod actions;
-mod alike;
 mod board;
 mod calls;
 mod checks;

@@ -1,0 +1,4 @@
+pub mod SampleLemmas
+pub mod BoardLemmas
+pub mod GroupLemmas
+pub mod ClaimLemmas
