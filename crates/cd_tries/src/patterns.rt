@@ -8,11 +8,7 @@ use cd_base::{Pattern, Place, Range};
 use cd_field::Field;
 
 /// The least place of a range whose word is not the pattern's, with that word. It takes no memory.
-pub fn first_other<F: Field>(
-    range: Range,
-    pattern: Pattern,
-    field: &F,
-) -> Option<(Place, u64)>
+pub fn first_other<F: Field>(range: Range, pattern: Pattern, field: &F) -> Option<(Place, u64)>
     requires present { ArePresent (F.model field.now) (range ∷ []) }
     ensures { MatchOption result (GivesWords (F.model field.now).words range pattern) (λ other. Differs other.0 (pattern_word pattern other.0.index) other.1 range pattern × DiffersFirst (F.model field.now).words other.0 other.1 range pattern) }
 {
