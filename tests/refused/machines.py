@@ -3,7 +3,7 @@
 
     machines.py [--crate NAME] [--modules NAME..] [--first N] [--step N] [--jobs N] [--try N..]
 
-The tests are those of machines in cd_tests if nothing else is given: they take each growth of a record, of its list of parts and of flags, and each
+The tests are those of machines in cd_parts_tests if nothing else is given: they take each growth of a record, of its list of parts and of flags, and each
 room for a copy of words that are shared. Of another crate they are all, or those of some modules. `rt test` has built them. Of each test the first 1,000 allocations (or those
 of `--first`) are refused, and from there on each 50th (or those of `--step`), by the library of `refusing.c`. A run has to end as a
 test that failed. `--try` goes through these numbers with `rt try --test --fail-alloc`, which also looks at each access, and builds the
@@ -19,7 +19,7 @@ import tempfile
 
 from allocations import SECONDS, SHOWN, TOP, built, call
 
-# The modules of cd_tests whose tests are of machines.
+# The modules of cd_parts_tests whose tests are of machines.
 OF_MACHINES = ['machine_calls', 'trials']
 # The status of a test that failed, and what `rt try` ends with where one did.
 FAILED = 101
@@ -57,7 +57,7 @@ def tried(crate, number):
 
 def main():
     parser = argparse.ArgumentParser(description='Refuses allocations of the tests of a crate in turn.')
-    parser.add_argument('--crate', default='cd_tests')
+    parser.add_argument('--crate', default='cd_parts_tests')
     parser.add_argument('--modules', nargs='*')
     parser.add_argument('--first', type=int, default=1000)
     parser.add_argument('--step', type=int, default=50)

@@ -15,7 +15,6 @@ macro_rules! refusals {
 }
 
 mod actions;
-mod board;
 mod calls;
 mod checks;
 mod commands;
@@ -25,12 +24,9 @@ mod faults;
 mod gates;
 mod language;
 mod largest;
-mod machine_calls;
 mod machines;
-mod parts;
 mod refusals;
 mod reports;
 mod runs;
 mod shapes;
 mod texts;
-mod trials;

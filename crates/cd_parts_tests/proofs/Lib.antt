@@ -1,0 +1,4 @@
+pub mod OneRegionLemmas
+pub mod TextLemmas
+pub mod TrialLemmas
+pub mod TurnLemmas

@@ -1,4 +1,0 @@
-use Rattle.cd_tests.proofs.tests.trials.+hand_down.Given as goal
-
-abbrev pub decreases-hand_down : goal.decreases-hand_down
-decreases-hand_down g l = l.depth

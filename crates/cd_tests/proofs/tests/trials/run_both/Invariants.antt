@@ -1,5 +1,0 @@
-use Rattle.cd_field.specs.Trials.{IsReady}
-use Rattle.cd_tests.proofs.tests.trials.run_both.Given as goal
-
-abbrev pub invariant-loop-turn : goal.invariant-loop-turn
-invariant-loop-turn g l = IsReady (g.F.Field.model l.field) × IsReady (g.G.Field.model l.other)
