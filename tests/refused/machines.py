@@ -65,7 +65,7 @@ def main():
     parser.add_argument('--try', dest='tries', type=int, nargs='*', default=[])
     given = parser.parse_args()
     if given.modules is None:
-        given.modules = OF_MACHINES if given.crate == 'cd_tests' else []
+        given.modules = OF_MACHINES if given.crate == 'cd_parts_tests' else []
     program = os.path.join(TOP, 'crates', given.crate, 'out', given.crate + '_tests')
     if not os.access(program, os.X_OK):
         print(f'the tests are not built: rt test {given.crate}')
