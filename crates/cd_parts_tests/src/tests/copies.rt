@@ -1,4 +1,5 @@
-// Each call of a pass, on the pass over shared pointers.
+//! Each call of a pass, on the pass over shared pointers.
+
 ghost use Rattle.std.specs.Prelude.{◌≡◌, ◌+◌, ◌*◌, ◌<◌, ◌≤◌, ◌∷◌, [], IfOk, OnOk};
 ghost use Rattle.cd_keep.specs.PassModel.{PassModel, HoldsNothing, opened, kept, child_of, without, joined};
 
@@ -7,8 +8,8 @@ use cd_keep::{ArcPass, GoneNote, KeepId, Pass};
 use std::sync::Wait;
 use std::test::Fail;
 
-// A word is as it should be.
-fn expect(found: u64, wanted: u64) -> Result<(), Fail> {
+/// A number is as it should be.
+pub(crate) fn expect(found: u64, wanted: u64) -> Result<(), Fail> {
     if found == wanted {
         Ok(())
     } else {

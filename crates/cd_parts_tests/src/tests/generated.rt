@@ -1,4 +1,5 @@
-// What the generated documents are, by their lengths and by the lines that tell sizes apart.
+//! What the generated documents are, by their lengths and by the lines that tell sizes apart.
+
 use cd_base::{MemorySink, WriteStop};
 use cd_make::write_make;
 use std::alloc::Global;

@@ -1,4 +1,5 @@
-//! The ground: words of patterns and unions of sets that no clause computes, and ends that fail at chosen calls.
+//! Words of patterns and unions of sets that no clause computes, lists and texts, and ends that fail at chosen calls.
+
 ghost use Rattle.std.specs.Prelude.{◌≡◌, ◌<◌};
 
 use cd_base::{
@@ -43,7 +44,8 @@ fn items_stand_in_the_order_of_their_pushes(rt: HostRuntime) -> Result<(), Fail>
     Ok(())
 }
 
-fn range(region: u32, low: u32, high: u32) -> Range
+/// A range of places of a region.
+pub(crate) fn range(region: u32, low: u32, high: u32) -> Range
     ensures low { result.low ≡ low }
     ensures high { result.high ≡ high }
 {

@@ -1,4 +1,5 @@
-// The twelve operations on a board of 64 words, on the plain machine and on the shipped one.
+//! The twelve operations on a board of 64 words, on the plain machine and on the shipped one.
+
 ghost use Rattle.std.specs.Prelude.{◌≡◌, ◌+◌, ◌<◌, ◌≤◌, ◌∷◌, [], true, All, IfOk, OnOk, IsSome, IsTrue};
 ghost use Rattle.cd_base.specs.Words.{in_range};
 ghost use Rattle.cd_tree.specs.Meaning.{initial};

@@ -1,24 +1,17 @@
-// Passes over one table of blocks, one after another and by many threads.
+//! Passes over one table of blocks, one after another and by many threads.
+
 ghost use Rattle.std.specs.Prelude.{◌≡◌, ◌-◌, ◌<◌, ◌∷◌, [], Some, IfOk, IsSome, OnOk};
 ghost use Rattle.std.specs.Thread.{IsSync};
 ghost use Rattle.cd_keep.specs.PassModel.{HoldsNothing, opened};
 ghost use Rattle.cd_lease.specs.Leases.{model_of};
 ghost use Rattle.cd_parts_tests.specs.Turns.{CanTurn, IsSpare};
 
+use super::copies::expect;
 use cd_keep::{KeepId, Pass};
 use cd_lease::{LeasePass, Try};
 use std::sync::Wait;
 use std::test::Fail;
 use std::thread::{Threads, join};
-
-// A number is as it should be.
-fn expect(found: u64, wanted: u64) -> Result<(), Fail> {
-    if found == wanted {
-        Ok(())
-    } else {
-        Err(Fail::new(format_args!("{found} in place of {wanted}")))
-    }
-}
 
 fn expect_id(found: KeepId, block: u32, serial: u64) -> Result<(), Fail> {
     expect(u64::from(found.block), u64::from(block))?;

@@ -1,4 +1,5 @@
-// How often the one domain of a program is tried, for pairs of faults at its begins.
+//! How often the one domain of a program is tried, for pairs of faults at its begins.
+
 use cd_base::{Items, Place, Text};
 use cd_reading::read_through;
 use cd_tree::{Domain, Fault, Kind, KindName, Kinds, NodeId, Tree};

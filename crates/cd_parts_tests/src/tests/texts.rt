@@ -1,4 +1,5 @@
-// What is printed, by example.
+//! What is printed, by example.
+
 ghost use Rattle.std.specs.Prelude.{◌<◌, ◌^◌, length, IsTrue, IfOk};
 ghost use Rattle.cd_field.specs.FlatMachine.{flat_machine};
 ghost use Rattle.cd_report.specs.Texts.{AllPresent};

@@ -1,5 +1,6 @@
-//! Trees: lists that are a program's, and lists that in one point are not.
+//! Lists of domains that are a program's, and lists that in one point are not.
 
+use super::ground::range;
 use cd_base::{Items, Range, Text};
 use cd_tree::limits::{MOST_DEPTH, MOST_RETRY};
 use cd_tree::{
@@ -21,18 +22,14 @@ struct Sketch<'a> {
     members: Option<&'a [NodeId]>,
 }
 
-fn part(region: u32, low: u32, high: u32) -> Range {
-    Range { region, low, high }
-}
-
 // The root of a test's domains.
 fn top(members: &[NodeId]) -> Sketch<'_> {
     Sketch {
         name: "top",
         parent: None,
         retry: MOST_RETRY,
-        entry: part(0, 0, 8),
-        op: Op::Fill(part(0, 0, 8), 1),
+        entry: range(0, 0, 8),
+        op: Op::Fill(range(0, 0, 8), 1),
         members: Some(members),
     }
 }
@@ -43,8 +40,8 @@ fn leaf(name: &str) -> Sketch<'_> {
         name,
         parent: Some(NodeId(0)),
         retry: 1,
-        entry: part(0, 0, 4),
-        op: Op::Copy(part(0, 0, 4), part(0, 4, 8)),
+        entry: range(0, 0, 4),
+        op: Op::Copy(range(0, 0, 4), range(0, 4, 8)),
         members: None,
     }
 }
@@ -169,7 +166,7 @@ fn what_is_wrong_in_one_point_is_no_tree(rt: HostRuntime) -> Result<(), Fail> {
             [
                 top(&both),
                 Sketch {
-                    entry: part(0, 4, 0),
+                    entry: range(0, 4, 0),
                     ..leaf("left")
                 },
                 leaf("right"),
@@ -180,7 +177,7 @@ fn what_is_wrong_in_one_point_is_no_tree(rt: HostRuntime) -> Result<(), Fail> {
             [
                 top(&both),
                 Sketch {
-                    op: Op::Copy(part(0, 0, 4), part(0, 4, 7)),
+                    op: Op::Copy(range(0, 0, 4), range(0, 4, 7)),
                     ..leaf("left")
                 },
                 leaf("right"),
@@ -191,7 +188,7 @@ fn what_is_wrong_in_one_point_is_no_tree(rt: HostRuntime) -> Result<(), Fail> {
             [
                 top(&both),
                 Sketch {
-                    op: Op::Copy(part(0, 0, 4), part(0, 3, 7)),
+                    op: Op::Copy(range(0, 0, 4), range(0, 3, 7)),
                     ..leaf("left")
                 },
                 leaf("right"),
@@ -245,18 +242,18 @@ fn no_tree_is_deeper_than_the_limit(rt: HostRuntime) -> Result<(), Fail> {
 
 #[test]
 fn operations_have_their_shapes(rt: HostRuntime) {
-    let x = part(0, 0, 4);
+    let x = range(0, 0, 4);
     let cases = [
-        (Op::Add(x, x, part(1, 2, 6)), true),
-        (Op::Add(x, x, part(0, 2, 6)), false),
-        (Op::Sum(part(1, 0, 1), x), true),
-        (Op::Sum(part(0, 3, 4), x), false),
-        (Op::Stencil(part(1, 0, 2), 1, 2, 1, x), true),
-        (Op::Stencil(part(1, 0, 4), 1, 2, 1, x), false),
+        (Op::Add(x, x, range(1, 2, 6)), true),
+        (Op::Add(x, x, range(0, 2, 6)), false),
+        (Op::Sum(range(1, 0, 1), x), true),
+        (Op::Sum(range(0, 3, 4), x), false),
+        (Op::Stencil(range(1, 0, 2), 1, 2, 1, x), true),
+        (Op::Stencil(range(1, 0, 4), 1, 2, 1, x), false),
     ];
     for (op, shape) in cases {
         assert!(rt; is_full(&op), "{op:?}");
         assert_eq!(rt; fits(&op), shape, "{op:?}");
     }
-    assert!(rt; !is_full(&Op::Scan(x, part(1, 4, 4))));
+    assert!(rt; !is_full(&Op::Scan(x, range(1, 4, 4))));
 }
