@@ -16,4 +16,4 @@ all_present m regions script event is k i region there within =
     let W : Option Region → Type 0 = λ r. IsSome (initial_word r i) in
     let K : Bool → Type 0 = λ b. IsSome (if b then Some (pattern_word region.pattern i) else None) in
     let less : nat_lt i region.length ≡ true = grind (arith, nat_tests, within) in
-    subst M (sym is) (record { known = subst W (sym there) (subst K (sym less) tt); here = refl })
+    subst M (sym is) (record { known = subst W (sym there) (subst K (sym less) refl); here = refl })
