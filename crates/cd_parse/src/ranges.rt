@@ -1,10 +1,9 @@
 //! Regions, ranges and places by their tokens.
-ghost use Rattle.std.specs.Prelude.{◌≡◌, ◌<◌, ◌^◌, ◌++◌, length, position, MatchOption, IsSome, None, Some, decimal};
-ghost use Rattle.cd_tokens.specs.Sums.{is_dot};
+ghost use Rattle.std.specs.Prelude.{◌≡◌, ◌<◌, ◌^◌, ◌++◌, length, MatchOption, None, Some, decimal};
 ghost use Rattle.cd_parse.specs.Ranges.{whole, region_named, base_region, numbered_region, region_in, some_words, one_place, one_word, bracketed, index_in, part_at, part_in, range_in, place_in};
 
 use cd_base::{Place, Range};
-use cd_tokens::{Variable, Wrong, both, bounds, expression, find, guard, is_base, is_numbered};
+use cd_tokens::{Variable, Wrong, both, bounds_at, expression, find, guard, is_base, is_numbered};
 use cd_tree::Region;
 
 /// Where a token is read: the variables with their values, and the regions declared so far.
@@ -155,14 +154,16 @@ impl Scope<'_> {
         one_word(region, index)
     }
 
-    // The words of a region between two numbers.
-    #[tactic(auto, unfolding(cd_tokens::specs::Sums::bounds))]
-    fn words_in(self, region: &[u8], numbers: &[u8]) -> Result<Range, Wrong>
+    // The words of a region between two numbers, where the first dot stands at this place.
+    fn words_in(self, region: &[u8], numbers: &[u8], dot: usize) -> Result<Range, Wrong>
         requires few { length self.regions.now < 2 ^ 32 }
-        requires dot { IsSome (position is_dot numbers.now) }
-        ensures { result ≡ part_at self.entry.variables.now self.entry.regions.now region.now numbers.now (position is_dot numbers.now) }
+        requires within { dot < length numbers.now }
+        ensures { result ≡ part_at self.entry.variables.now self.entry.regions.now region.now numbers.now (Some dot) }
     {
-        let (region, (low, high)) = both(self.region_in(region), bounds(self.variables, numbers))?;
+        let (region, (low, high)) = both(
+            self.region_in(region),
+            bounds_at(self.variables, numbers, dot),
+        )?;
         some_words(region, low, high)
     }
 
@@ -173,7 +174,7 @@ impl Scope<'_> {
     {
         match find(numbers, b'.') {
             None => self.word_in(region, numbers),
-            Some(_) => self.words_in(region, numbers),
+            Some(dot) => self.words_in(region, numbers, dot),
         }
     }
 

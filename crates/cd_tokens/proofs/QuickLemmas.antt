@@ -1,20 +1,20 @@
 -- Expressions in one pass.
 use Rattle.std.proofs.Common.{◌≡◌, ℕ, zero, suc, ◌+◌, ◌*◌, ◌-◌, ◌<◌, ◌≤◌, ◌^◌, ◌==◌, ◌&&◌, Bool, true, false, not, cond, nat_lt, List, [], ◌∷◌, ◌++◌, length, take, drop, get_or, Option, Some, None, inl, inr, refl, sym, ap, ◌∙◌, subst, arith, ltb-false}
 use Rattle.std.specs.Prelude.{Result, Ok, Err, IfSome}
+use Rattle.std.specs.Borrow.{Bor}
 use Rattle.std.specs.List.{list_all, onto_first, position, position_or_len, slice_split}
 use Rattle.std.proofs.lemmas.Bool.{or_parts}
 use Rattle.std.proofs.lemmas.Bool.Decides.{nat_tests}
-use Rattle.std.proofs.lemmas.List.{append-nil, take-append-drop, drop_more, take_rest}
+use Rattle.std.proofs.Math.Seq.{take-length}
+use Rattle.std.proofs.lemmas.List.{append-nil, take-append-drop, take_rest, length-append}
 use Rattle.std.proofs.lemmas.List.Quantifiers.{position-Some}
 use Rattle.cd_tokens.specs.declared.wrong.Wrong.{Wrong}
 use Rattle.cd_tokens.specs.declared.wrong.Wrong.TheVariants.{Form, Overflow}
 use Rattle.cd_tokens.specs.declared.sums.Variable.{Variable}
 use Rattle.cd_tokens.specs.declared.sums.Reading.{Reading}
-use Rattle.cd_tokens.specs.Cuts.{is_operator, IsPlain, CutsOperatorAt}
-use Rattle.cd_tokens.specs.Quick.{HasDigits, sum_behind, GoesOn, IsLast}
+use Rattle.cd_tokens.specs.Quick.{is_operator, IsPlain, CutsPlain, BeginsDigit, BeginsOther, number_front, IsFront, ReadsAtom, sum_behind, GoesOn, IsLast}
 use Rattle.cd_tokens.specs.Sums.{is_digit, is_times, is_sign, in_64_bits, value_after, value_of, atom, times, term, joined, plus, product_on, sum_on, Part, put_byte, cut_at_signs, expression}
 use Rattle.cd_tokens.proofs.LineLemmas.{none_found}
-use Rattle.cd_tokens.proofs.CutLemmas.{rest_shorter}
 
 -- ---- where the first operator stands
 
@@ -25,17 +25,13 @@ plain_front (x ∷ xs) zero within none = tt
 plain_front (x ∷ xs) (suc n) within none =
     (none 0 (omega arith), plain_front xs n (omega arith) (λ (k : ℕ) h. none (suc k) (omega arith)))
 
-pub cuts_operator_at : (xs : List ℕ) (at : ℕ) → position is_operator xs ≡ Some at
-    → CutsOperatorAt xs (take at xs) (get_or xs at 0) (take (length xs - (at + 1)) (drop (at + 1) xs))
-cuts_operator_at xs at found =
+-- a token cut before its first operator
+pub cuts_plain_at : (xs : List ℕ) (at : ℕ) → position is_operator xs ≡ Some at → CutsPlain xs (take at xs) (drop at xs)
+cuts_plain_at xs at found =
     let first = position-Some is_operator xs at 0 found in
     record {
       plain = plain_front xs at (omega (arith, first.0)) first.2;
-      is = first.1;
-      whole = sym (take-append-drop at xs)
-          ∙ ap (λ (rest : List ℕ). take at xs ++ rest)
-          (drop_more xs at 0 first.0 ∙ ap (λ (rest : List ℕ). get_or xs at 0 ∷ rest) (sym (take_rest xs (at + 1))));
-      shorter = rest_shorter is_operator xs at found;
+      whole = sym (take-append-drop at xs);
     }
 
 plain_more : (b : Bool) (n : ℕ) (xs : List ℕ) → (length xs ≤ n → IsPlain xs) → suc (length xs) ≤ cond (not b) (1 + n) 0 → (b ≡ false) × IsPlain xs
@@ -46,9 +42,15 @@ plain_all : (xs : List ℕ) → length xs ≤ position_or_len is_operator xs →
 plain_all [] h = tt
 plain_all (x ∷ xs) h = plain_more (is_operator x) (position_or_len is_operator xs) xs (plain_all xs) h
 
-pub is_plain : (xs : List ℕ) → position is_operator xs ≡ None → IsPlain xs
-is_plain xs none =
-    plain_all xs (ltb-false _ _ (none_found (nat_lt (position_or_len is_operator xs) (length xs)) (position_or_len is_operator xs) none))
+-- and one without an operator at its end
+pub cuts_plain_end : (xs : List ℕ) → position is_operator xs ≡ None → CutsPlain xs (take (length xs) xs) (drop (length xs) xs)
+cuts_plain_end xs none =
+    let plain : IsPlain xs =
+    plain_all xs (ltb-false _ _ (none_found (nat_lt (position_or_len is_operator xs) (length xs)) (position_or_len is_operator xs) none)) in
+    record {
+      plain = subst IsPlain (sym (take-length xs)) plain;
+      whole = sym (take-append-drop (length xs) xs);
+    }
 
 -- ---- a token behind bytes without an operator
 
@@ -100,8 +102,8 @@ plus_is sum sign term = refl
 -- ---- one factor more
 
 -- what an expression comes to whose rest is cut at its signs
-abbrev behind : List Variable → ℕ → ℕ → ℕ → List ℕ × List Part → Result ℕ Wrong
-behind variables sum sign product cut =
+abbrev behind_cut : List Variable → ℕ → ℕ → ℕ → List ℕ × List Part → Result ℕ Wrong
+behind_cut variables sum sign product cut =
     sum_on variables (plus (Ok sum) sign (product_on variables (Ok product) (slice_split is_times cut.0))) cut.1
 
 -- the same, whose factors are cut
@@ -111,9 +113,9 @@ factors_behind variables sum sign product factors parts =
 
 factor_read : (variables : List Variable) (sum sign product value : ℕ) (rest front more : List ℕ) → IsPlain front → rest ≡ front ++ 42 ∷ more
     → atom variables front ≡ Ok value → product * value < 2 ^ 64
-    → behind variables sum sign product (cut_at_signs rest) ≡ behind variables sum sign (product * value) (cut_at_signs more)
+    → behind_cut variables sum sign product (cut_at_signs rest) ≡ behind_cut variables sum sign (product * value) (cut_at_signs more)
 factor_read variables sum sign product value rest front more plain whole is few =
-    ap (behind variables sum sign product) (ap cut_at_signs whole ∙ cut_plain front (42 ∷ more) plain)
+    ap (behind_cut variables sum sign product) (ap cut_at_signs whole ∙ cut_plain front (42 ∷ more) plain)
     ∙ ap (λ (factors : List (List ℕ)). factors_behind variables sum sign (Ok product) factors (cut_at_signs more).1)
     (split_plain front (cut_at_signs more).0 plain)
     ∙ ap (λ (p : Result ℕ Wrong). factors_behind variables sum sign p (slice_split is_times (cut_at_signs more).0) (cut_at_signs more).1)
@@ -140,39 +142,61 @@ sign_cut front more sign plain is =
 term_read : (variables : List Variable) (sum sign product value next operator : ℕ) (rest front more : List ℕ) → IsPlain front
     → is_sign operator ≡ true → rest ≡ front ++ operator ∷ more → atom variables front ≡ Ok value → product * value < 2 ^ 64
     → joined sign sum (product * value) ≡ Ok next
-    → behind variables sum sign product (cut_at_signs rest) ≡ behind variables next operator 1 (cut_at_signs more)
+    → behind_cut variables sum sign product (cut_at_signs rest) ≡ behind_cut variables next operator 1 (cut_at_signs more)
 unfolding term
 term_read variables sum sign product value next operator rest front more plain is whole value_is few sums =
-    ap (behind variables sum sign product) (ap cut_at_signs whole ∙ sign_cut front more operator plain is)
+    ap (behind_cut variables sum sign product) (ap cut_at_signs whole ∙ sign_cut front more operator plain is)
     ∙ ap (λ (s : Result ℕ Wrong). sum_on variables s (record { sign = operator; token = (cut_at_signs more).0 } ∷ (cut_at_signs more).1))
     (term_sum variables sum sign product value next front plain value_is few sums)
 
-sign_or_times : (b : ℕ) → is_operator b ≡ true → (b ≡ 42 → ⊥) → is_sign b ≡ true
-sign_or_times b is other = grind (arith, nat_tests)
+pub nothing_left : (bytes : List ℕ) → length bytes < 1 → bytes ≡ []
+nothing_left [] few = refl
+nothing_left (b ∷ bytes) few = absurd (omega arith)
+
+-- a first byte, and those behind it as the slices of the code show them
+pub first_and_rest : (bytes : List ℕ) → 1 ≤ length bytes → bytes ≡ get_or bytes 0 0 ∷ take (length bytes - 1) (drop 1 bytes)
+first_and_rest [] some = absurd (omega arith)
+first_and_rest (b ∷ bytes) some = ap (λ (rest : List ℕ). b ∷ rest) (sym (take_rest (b ∷ bytes) 1))
+
+-- a token that begins with an atom and goes on with an operator
+goes_on : (variables : List Variable) (value operator : ℕ) (rest behind more : List ℕ) (read : ReadsAtom variables rest value behind)
+    → behind ≡ operator ∷ more → rest ≡ read.front ++ operator ∷ more
+goes_on variables value operator rest behind more read is = read.cuts.whole ∙ ap (λ (bytes : List ℕ). read.front ++ bytes) is
 
 -- one factor more, and the operator behind it
-pub read_more : (variables : List Variable) (reading next : Reading) (value operator : ℕ) (rest front more : List ℕ)
-    → CutsOperatorAt rest front operator more → atom variables front ≡ Ok value → GoesOn reading value operator next
+pub read_more : (variables : List Variable) (reading next : Reading) (value operator : ℕ) (rest behind more : List ℕ)
+    → ReadsAtom variables rest value behind → behind ≡ operator ∷ more → GoesOn reading value operator next
     → sum_behind variables next more ≡ sum_behind variables reading rest
-read_more variables reading next value operator rest front more cut is (inl factor) =
-    let whole : rest ≡ front ++ 42 ∷ more = cut.whole ∙ ap (λ (b : ℕ). front ++ b ∷ more) factor.is in
+read_more variables reading next value operator rest behind more read is (inl factor) =
+    let whole : rest ≡ read.front ++ 42 ∷ more =
+    goes_on variables value operator rest behind more read is ∙ ap (λ (b : ℕ). read.front ++ b ∷ more) factor.is in
     let few : reading.product * value < 2 ^ 64 = subst (λ (n : ℕ). n < 2 ^ 64) factor.product factor.fits in
-    ap (λ (n : ℕ). behind variables n next.sign next.product (cut_at_signs more)) factor.sum
-    ∙ ap (λ (n : ℕ). behind variables reading.sum n next.product (cut_at_signs more)) factor.sign
-    ∙ ap (λ (n : ℕ). behind variables reading.sum reading.sign n (cut_at_signs more)) factor.product
-    ∙ sym (factor_read variables reading.sum reading.sign reading.product value rest front more cut.plain whole is few)
-read_more variables reading next value operator rest front more cut is (inr last) =
-    ap (λ (n : ℕ). behind variables next.sum n next.product (cut_at_signs more)) last.sign
-    ∙ ap (λ (n : ℕ). behind variables next.sum operator n (cut_at_signs more)) last.product
-    ∙ sym (term_read variables reading.sum reading.sign reading.product value next.sum operator rest front more cut.plain
-    (sign_or_times operator cut.is last.is) cut.whole is last.fits last.sum)
+    ap (λ (n : ℕ). behind_cut variables n next.sign next.product (cut_at_signs more)) factor.sum
+    ∙ ap (λ (n : ℕ). behind_cut variables reading.sum n next.product (cut_at_signs more)) factor.sign
+    ∙ ap (λ (n : ℕ). behind_cut variables reading.sum reading.sign n (cut_at_signs more)) factor.product
+    ∙ sym (factor_read variables reading.sum reading.sign reading.product value rest read.front more read.cuts.plain whole read.is few)
+read_more variables reading next value operator rest behind more read is (inr last) =
+    ap (λ (n : ℕ). behind_cut variables next.sum n next.product (cut_at_signs more)) last.sign
+    ∙ ap (λ (n : ℕ). behind_cut variables next.sum operator n (cut_at_signs more)) last.product
+    ∙ sym (term_read variables reading.sum reading.sign reading.product value next.sum operator rest read.front more read.cuts.plain
+    last.is (goes_on variables value operator rest behind more read is) read.is last.fits last.sum)
 
 -- the last factor of all
-pub read_end : (variables : List Variable) (reading : Reading) (value sum : ℕ) (rest : List ℕ) → IsPlain rest → atom variables rest ≡ Ok value
-    → IsLast reading value sum → sum_behind variables reading rest ≡ Ok sum
-read_end variables reading value sum rest plain is last =
-    ap (behind variables reading.sum reading.sign reading.product) (cut_alone rest plain)
-    ∙ term_sum variables reading.sum reading.sign reading.product value sum rest plain is last.fits last.sum
+read_end : (variables : List Variable) (reading : Reading) (value sum : ℕ) (rest behind : List ℕ) → ReadsAtom variables rest value behind
+    → behind ≡ [] → IsLast reading value sum → sum_behind variables reading rest ≡ Ok sum
+read_end variables reading value sum rest behind read is last =
+    let whole : rest ≡ read.front = read.cuts.whole ∙ ap (λ (bytes : List ℕ). read.front ++ bytes) is ∙ append-nil read.front in
+    ap (sum_behind variables reading) whole
+    ∙ ap (behind_cut variables reading.sum reading.sign reading.product) (cut_alone read.front read.cuts.plain)
+    ∙ term_sum variables reading.sum reading.sign reading.product value sum read.front read.cuts.plain read.is last.fits last.sum
+
+-- the same, where there is a sum
+pub end_given : (variables : List Variable) (reading : Reading) (value : ℕ) (result : Option ℕ) (token rest behind : List ℕ)
+    → ReadsAtom variables rest value behind → behind ≡ [] → IfSome result (λ sum. IsLast reading value sum)
+    → sum_behind variables reading rest ≡ expression variables token → IfSome result (λ sum. expression variables token ≡ Ok sum)
+end_given variables reading value None token rest behind read is last whole = tt
+end_given variables reading value (Some sum) token rest behind read is last whole =
+    sym whole ∙ read_end variables reading value sum rest behind read is last
 
 -- nothing is read yet
 pub read_none : (variables : List Variable) (token : List ℕ)
@@ -182,6 +206,11 @@ read_none variables token = refl
 
 -- ---- atoms
 
+-- with these digits behind it, a number becomes that one, which has 64 bits
+abbrev HasDigits : ℕ → ℕ → List ℕ → Type 0
+HasDigits before value [] = (before ≡ value) × (value < 2 ^ 64)
+HasDigits before value (b ∷ bytes) = (is_digit b ≡ true) × HasDigits (10 * before + (b - 48)) value bytes
+
 all_digits : (n value : ℕ) (bytes : List ℕ) → HasDigits n value bytes
     → (list_all is_digit bytes ≡ true) × (value_after n bytes ≡ value) × (value < 2 ^ 64)
 all_digits n value [] has = (refl, has.0, has.1)
@@ -190,7 +219,7 @@ all_digits n value (b ∷ bytes) has =
     (ap (λ (t : Bool). t && list_all is_digit bytes) has.0 ∙ rest.0, rest.1, rest.2)
 
 -- digits are an atom
-pub digits_atom : (variables : List Variable) (value : ℕ) (token : List ℕ) → 0 < length token → HasDigits 0 value token
+digits_atom : (variables : List Variable) (value : ℕ) (token : List ℕ) → 0 < length token → HasDigits 0 value token
     → atom variables token ≡ Ok value
 unfolding atom
 digits_atom variables value token some has =
@@ -201,7 +230,7 @@ digits_atom variables value token some has =
     ∙ ap in_64_bits all.1 ∙ fits value all.2
 
 -- what begins with another byte is the name of a variable
-pub name_atom : (variables : List Variable) (token : List ℕ) → 0 < length token → is_digit (get_or token 0 0) ≡ false
+name_atom : (variables : List Variable) (token : List ℕ) → 0 < length token → is_digit (get_or token 0 0) ≡ false
     → atom variables token ≡ value_of variables token
 unfolding atom
 name_atom variables [] some is = absurd (omega arith)
@@ -210,26 +239,6 @@ name_atom variables (b ∷ bytes) some is =
     ap (λ (t : Bool). cond t (Err Form) (cond (list_all is_digit (b ∷ bytes)) (in_64_bits (value_after 0 (b ∷ bytes))) (value_of variables (b ∷ bytes)))) more
     ∙ ap (λ (t : Bool). cond (t && list_all is_digit bytes) (in_64_bits (value_after 0 (b ∷ bytes))) (value_of variables (b ∷ bytes))) is
 
--- the same, of what may be none
-pub digits_given : (variables : List Variable) (token : List ℕ) (result : Option ℕ) → 0 < length token
-    → IfSome result (λ value. HasDigits 0 value token) → IfSome result (λ value. atom variables token ≡ Ok value)
-digits_given variables token None some has = tt
-digits_given variables token (Some value) some has = digits_atom variables value token some has
-
-pub name_given : (variables : List Variable) (token : List ℕ) (result : Option ℕ) → 0 < length token → is_digit (get_or token 0 0) ≡ false
-    → IfSome result (λ value. value_of variables token ≡ Ok value) → IfSome result (λ value. atom variables token ≡ Ok value)
-name_given variables token None some other is = tt
-name_given variables token (Some value) some other is = name_atom variables token some other ∙ is
-
--- the last factor of all, where there is a sum
-pub end_given : (variables : List Variable) (reading : Reading) (value : ℕ) (result : Option ℕ) (token rest : List ℕ) → IsPlain rest
-    → atom variables rest ≡ Ok value → IfSome result (λ sum. IsLast reading value sum)
-    → sum_behind variables reading rest ≡ expression variables token → IfSome result (λ sum. expression variables token ≡ Ok sum)
-end_given variables reading value None token rest plain is last whole = tt
-end_given variables reading value (Some sum) token rest plain is last whole = sym whole ∙ read_end variables reading value sum rest plain is last
-
--- ---- digits alone
-
 digit_plain : (b : ℕ) → is_digit b ≡ true → is_operator b ≡ false
 digit_plain b is = grind (arith, nat_tests)
 
@@ -237,19 +246,75 @@ digits_plain : (n value : ℕ) (bytes : List ℕ) → HasDigits n value bytes �
 digits_plain n value [] has = tt
 digits_plain n value (b ∷ bytes) has = (digit_plain b has.0, digits_plain (10 * n + (b - 48)) value bytes has.1)
 
--- digits alone are an expression
-pub digits_expression : (variables : List Variable) (value : ℕ) (token : List ℕ) → 0 < length token → HasDigits 0 value token
-    → expression variables token ≡ Ok value
-digits_expression variables value token some has =
-    let few : value < 2 ^ 64 = (all_digits 0 value token has).2 in
-    let whole : in_64_bits (0 + 1 * value) ≡ Ok value = ap in_64_bits (one_factor value) ∙ fits value few in
-    let last : IsLast (record { sum = 0; sign = 43; product = 1 }) value value = record {
-      fits = omega (arith, few);
-      sum = whole;
-    } in
-    sym (read_none variables token)
-    ∙ read_end variables (record { sum = 0; sign = 43; product = 1 }) value value token (digits_plain 0 value token has)
-    (digits_atom variables value token some has) last
-  where
-    one_factor : (n : ℕ) → 0 + 1 * n ≡ n
-    one_factor n = omega arith
+-- ---- atoms at the front of a token
+
+record FrontDigits (n value : ℕ) (token rest : List ℕ) : Type 0 where
+  front : List ℕ
+  has : HasDigits n value front
+  whole : token ≡ front ++ rest
+
+front_none : (n value : ℕ) (token rest : List ℕ) → value < 2 ^ 64 → ◌≡◌ {A = ℕ × List ℕ} (n, token) (value, rest) → FrontDigits n value token rest
+front_none n value token rest few is = record {
+  front = [];
+  has = (ap (λ (p : ℕ × List ℕ). p.0) is, few);
+  whole = ap (λ (p : ℕ × List ℕ). p.1) is;
+}
+
+front_step : (t : Bool) (n value b : ℕ) (bytes rest : List ℕ) → value < 2 ^ 64 → is_digit b ≡ t
+    → (number_front (10 * n + (b - 48)) bytes ≡ (value, rest) → FrontDigits (10 * n + (b - 48)) value bytes rest)
+    → cond t (number_front (10 * n + (b - 48)) bytes) (n, b ∷ bytes) ≡ (value, rest) → FrontDigits n value (b ∷ bytes) rest
+front_step true n value b bytes rest few digit more is =
+    let read = more is in
+    record {
+      front = b ∷ read.front;
+      has = (digit, read.has);
+      whole = ap (λ (front : List ℕ). b ∷ front) read.whole;
+    }
+front_step false n value b bytes rest few digit more is = front_none n value (b ∷ bytes) rest few is
+
+front_digits : (n value : ℕ) (token rest : List ℕ) → value < 2 ^ 64 → number_front n token ≡ (value, rest) → FrontDigits n value token rest
+front_digits n value [] rest few is = front_none n value [] rest few is
+front_digits n value (b ∷ bytes) rest few is =
+    front_step (is_digit b) n value b bytes rest few refl (front_digits (10 * n + (b - 48)) value bytes rest few) is
+
+-- one digit more at the front
+pub front_more : (n digit : ℕ) (token rest : List ℕ) → BeginsDigit token digit rest
+    → number_front n token ≡ number_front (10 * n + (digit - 48)) rest
+front_more n digit token rest begins =
+    ap (number_front n) begins.whole
+    ∙ ap (λ (t : Bool). cond t (number_front (10 * n + (digit - 48)) rest) (n, digit ∷ rest)) begins.is
+
+-- no digit at the front
+pub front_ends : (n : ℕ) (token : List ℕ) → BeginsOther token → number_front n token ≡ (n, token)
+front_ends n [] other = refl
+front_ends n (b ∷ bytes) other = ap (λ (t : Bool). cond t (number_front (10 * n + (b - 48)) bytes) (n, b ∷ bytes)) other
+
+-- a token that begins with a digit begins with a number
+digits_read : (variables : List Variable) (value : ℕ) (token rest : List ℕ) → 0 < length token → is_digit (get_or token 0 0) ≡ true
+    → value < 2 ^ 64 → number_front 0 token ≡ (value, rest) → ReadsAtom variables token value rest
+digits_read variables value [] rest some digit few is = absurd (omega arith)
+digits_read variables value (b ∷ bytes) rest some digit few is =
+    let read = front_digits (10 * 0 + (b - 48)) value bytes rest few
+    (sym (ap (λ (t : Bool). cond t (number_front (10 * 0 + (b - 48)) bytes) (0, b ∷ bytes)) digit) ∙ is) in
+    let has : HasDigits 0 value (b ∷ read.front) = (digit, read.has) in
+    record {
+      front = b ∷ read.front;
+      cuts = record { plain = digits_plain 0 value (b ∷ read.front) has; whole = ap (λ (front : List ℕ). b ∷ front) read.whole };
+      is = digits_atom variables value (b ∷ read.front) (omega arith) has;
+    }
+
+-- the same, of what may be none
+pub digits_given : (variables : List Variable) (token : List ℕ) (result : Option (ℕ × Bor (List ℕ))) → 0 < length token
+    → is_digit (get_or token 0 0) ≡ true → IfSome result (λ p. IsFront token p.0 p.1.now)
+    → IfSome result (λ p. ReadsAtom variables token p.0 p.1.now)
+digits_given variables token None some digit is = tt
+digits_given variables token (Some p) some digit is = digits_read variables p.0 token p.1.now some digit is.0 is.1
+
+-- and one that begins with a name with the value of a variable
+pub name_read : (variables : List Variable) (value : ℕ) (token name rest : List ℕ) → CutsPlain token name rest → 0 < length name
+    → is_digit (get_or name 0 0) ≡ false → value_of variables name ≡ Ok value → ReadsAtom variables token value rest
+name_read variables value token name rest cuts some other is = record {
+  front = name;
+  cuts = cuts;
+  is = name_atom variables name some other ∙ is;
+}

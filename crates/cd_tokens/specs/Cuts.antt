@@ -1,8 +1,8 @@
 -- What the functions that cut a token answer.
-use Rattle.std.specs.Prelude.{◌≡◌, ℕ, ◌+◌, ◌<◌, Bool, true, false, ◌||◌, ◌==◌, List, [], ◌∷◌, ◌++◌, length, take, drop, position, Option, Some, None, MatchOption}
+use Rattle.std.specs.Prelude.{◌≡◌, ℕ, ◌+◌, ◌<◌, Bool, ◌==◌, List, [], ◌∷◌, length, take, drop, position, Option, Some, None, MatchOption}
 use Rattle.std.specs.List.{slice_split}
 use Rattle.std.specs.Borrow.{Bor}
-use Rattle.cd_tokens.specs.Sums.{is_times, is_sign, Part, parts_of}
+use Rattle.cd_tokens.specs.Sums.{Part, parts_of}
 
 abbrev pub is_byte : ℕ → ℕ → Bool
 is_byte wanted b = b == wanted
@@ -32,22 +32,3 @@ pub record CutsSignAt (token before : List ℕ) (next : ℕ) (behind : List ℕ)
 abbrev pub CutsSign : List ℕ → Option (Bor (List ℕ) × ℕ × Bor (List ℕ)) → Type 0
 CutsSign token result =
     MatchOption result ((sign : ℕ) → parts_of sign token ≡ part_of sign token ∷ []) (λ p. CutsSignAt token p.0.now p.1 p.2.now)
-
--- a byte between two atoms
-abbrev pub is_operator : ℕ → Bool
-is_operator b = is_times b || is_sign b
-
--- no byte stands between two atoms
-abbrev pub IsPlain : List ℕ → Type 0
-IsPlain [] = Unit {0}
-IsPlain (b ∷ bytes) = (is_operator b ≡ false) × IsPlain bytes
-
--- a token cut at its first operator
-pub record CutsOperatorAt (token before : List ℕ) (operator : ℕ) (behind : List ℕ) : Type 0 where
-  pub plain : IsPlain before
-  pub is : is_operator operator ≡ true
-  pub whole : token ≡ before ++ operator ∷ behind
-  pub shorter : length behind < length token
-
-abbrev pub CutsOperator : List ℕ → Option (Bor (List ℕ) × ℕ × Bor (List ℕ)) → Type 0
-CutsOperator token result = MatchOption result (IsPlain token) (λ p. CutsOperatorAt token p.0.now p.1 p.2.now)

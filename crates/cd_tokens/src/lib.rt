@@ -20,6 +20,6 @@ pub use blocks::{Layout, lay_out};
 pub use kinds::{kind, kind_set, pattern};
 pub use lines::{Line, Role};
 pub use names::{is_numbered, name, path, text_of};
-pub use sums::{Variable, bounds, cut, expression, find, is_base};
+pub use sums::{Variable, bounds, bounds_at, cut, expression, find, is_base};
 pub use written::{add_kinds, kind_name, kinds_text, place_text, region_name};
 pub use wrong::{Stop, Wrong, all_hold, both, guard, room};

@@ -1,9 +1,9 @@
 //! Numbers: digits, variables, products and sums, each intermediate result within 64 bits.
 ghost use Rattle.std.specs.Prelude.{◌≡◌, ◌+◌, ◌*◌, ◌-◌, ◌<◌, ◌^◌, ◌==◌, true, length, position, MatchOption, Some, None, Ok, IfSome};
 ghost use Rattle.std.specs.List.{list_all};
-ghost use Rattle.cd_tokens.specs.Cuts.{Cuts, CutsSign, is_operator, CutsOperator};
-ghost use Rattle.cd_tokens.specs.Quick.{HasDigits, GoesOn, IsLast};
-ghost use Rattle.cd_tokens.specs.Sums.{is_digit, is_letter, is_name_byte, is_base, in_64_bits, value_after, value_of, atom, times, term, is_sign, joined, plus, expression, behind_dot, bounds};
+ghost use Rattle.cd_tokens.specs.Cuts.{Cuts, CutsSign};
+ghost use Rattle.cd_tokens.specs.Quick.{is_operator, CutsPlain, BeginsDigit, BeginsOther, IsFront, ReadsAtom, GoesOn, IsLast};
+ghost use Rattle.cd_tokens.specs.Sums.{is_digit, is_letter, is_name_byte, is_base, in_64_bits, value_after, value_of, atom, times, term, is_sign, joined, plus, expression, behind_dot, bounds, bounds_at};
 
 use crate::wrong::{Wrong, both};
 use cd_base::Bytes;
@@ -217,49 +217,52 @@ fn find_operator(token: &[u8]) -> Option<usize>
     token.iter().position(|b| is_operator(*b))
 }
 
-// What stands before the first operator, the operator, and what stands behind it.
-fn cut_operator(token: &[u8]) -> Option<(&[u8], u8, &[u8])>
-    ensures { CutsOperator token.now result }
+// What stands before the first operator, and what stands from it on.
+fn before_operator(token: &[u8]) -> (&[u8], &[u8])
+    ensures { CutsPlain token.now result.0.now result.1.now }
 {
     match find_operator(token) {
-        Some(at) => Some((&token[..at], token[at], &token[at + 1..])),
-        None => None,
+        Some(at) => token.split_at(at),
+        None => token.split_at(token.len()),
     }
 }
 
-// The value of digits, where there are no other bytes and it has 64 bits.
-fn quick_digits(digits: &[u8]) -> Option<u64>
-    ensures { IfSome result (λ value. HasDigits 0 value digits.now) }
+// A digit that a token begins with, and what stands behind it.
+fn first_digit(token: &[u8]) -> Option<(u8, &[u8])>
+    ensures { MatchOption result (BeginsOther token.now) (λ p. BeginsDigit token.now p.0 p.1.now) }
+{
+    match token {
+        [first, rest @ ..] if is_digit(*first) => Some((*first, rest)),
+        _ => None,
+    }
+}
+
+// The greatest number that has 64 bits with any digit behind it.
+const MOST: u64 = u64::MAX / 10 - 1;
+
+// A number with one digit more behind it, where that has 64 bits whatever the digit is.
+fn one_more_digit(value: u64, digit: u8) -> Option<u64>
+    requires { is_digit digit ≡ true }
+    ensures { IfSome result (λ more. more ≡ 10 * value + (digit - 48)) }
+{
+    if value <= MOST {
+        Some(10 * value + u64::from(digit - b'0'))
+    } else {
+        None
+    }
+}
+
+// The number that a token begins with, and what stands behind it.
+fn quick_digits(token: &[u8]) -> Option<(u64, &[u8])>
+    ensures { IfSome result (λ p. IsFront token.now p.0 p.1.now) }
 {
     let mut value: u64 = 0;
-    for digit in digits {
-        value = one_more_digit(value, *digit)?;
+    let mut rest = token;
+    while let Some((digit, more)) = first_digit(rest) {
+        value = one_more_digit(value, digit)?;
+        rest = more;
     }
-    Some(value)
-}
-
-// A number with one digit more behind it, where the byte is a digit and the number has 64 bits.
-fn one_more_digit(value: u64, byte: u8) -> Option<u64>
-    ensures { IfSome result (λ more. (is_digit byte ≡ true) × (more ≡ 10 * value + (byte - 48)) × (more < 2 ^ 64)) }
-{
-    if is_digit(byte) {
-        value.checked_mul(10)?.checked_add(u64::from(byte - b'0'))
-    } else {
-        None
-    }
-}
-
-// The value of an atom, where it has one.
-fn quick_atom(variables: &[Variable], token: &[u8]) -> Option<u64>
-    ensures { IfSome result (λ value. atom variables.now token.now ≡ Ok value) }
-{
-    if token.is_empty() {
-        None
-    } else if is_digit(token[0]) {
-        quick_digits(token)
-    } else {
-        quick_value(variables, token)
-    }
+    Some((value, rest))
 }
 
 // The value of the variable with this name, where there is one.
@@ -272,6 +275,30 @@ fn quick_value(variables: &[Variable], name: &[u8]) -> Option<u64>
         }
     }
     None
+}
+
+// The value of the variable that a token begins with, and what stands behind its name.
+fn quick_name<'t>(variables: &[Variable], token: &'t [u8]) -> Option<(u64, &'t [u8])>
+    ensures { IfSome result (λ p. ReadsAtom variables.now token.now p.0 p.1.now) }
+{
+    let (name, behind) = before_operator(token);
+    if name.is_empty() || is_digit(name[0]) {
+        return None;
+    }
+    Some((quick_value(variables, name)?, behind))
+}
+
+// The value of the atom that a token begins with, where it has one, and what stands behind it.
+fn quick_atom<'t>(variables: &[Variable], token: &'t [u8]) -> Option<(u64, &'t [u8])>
+    ensures { IfSome result (λ p. ReadsAtom variables.now token.now p.0 p.1.now) }
+{
+    if token.is_empty() {
+        None
+    } else if is_digit(token[0]) {
+        quick_digits(token)
+    } else {
+        quick_name(variables, token)
+    }
 }
 
 // An expression of which a part is read: the sum before a term, the sign of the term, and the product of its factors so far.
@@ -289,12 +316,14 @@ fn read_on(reading: Reading, factor: u64, operator: u8) -> Option<Reading>
     let product = reading.product.checked_mul(factor)?;
     if operator == b'*' {
         Some(Reading { product, ..reading })
-    } else {
+    } else if is_sign(operator) {
         Some(Reading {
             sum: quick_joined(reading.sign, reading.sum, product)?,
             sign: operator,
             product: 1,
         })
+    } else {
+        None
     }
 }
 
@@ -321,38 +350,22 @@ fn quick_joined(sign: u8, a: u64, b: u64) -> Option<u64>
 fn quick(variables: &[Variable], token: &[u8]) -> Option<u64>
     ensures { IfSome result (λ value. expression variables.now token.now ≡ Ok value) }
 {
-    match quick_number(token) {
-        Some(value) => Some(value),
-        None => quick_sum(variables, token),
-    }
-}
-
-// The value of a token of digits alone.
-fn quick_number(token: &[u8]) -> Option<u64>
-    ensures { IfSome result (λ value. (0 < length token.now) × HasDigits 0 value token.now) }
-{
-    if token.is_empty() {
-        None
-    } else {
-        quick_digits(token)
-    }
-}
-
-// The value of terms with which nothing is wrong; else maybe none.
-fn quick_sum(variables: &[Variable], token: &[u8]) -> Option<u64>
-    ensures { IfSome result (λ value. expression variables.now token.now ≡ Ok value) }
-{
     let mut reading = Reading {
         sum: 0,
         sign: b'+',
         product: 1,
     };
     let mut rest = token;
-    while let Some((factor, operator, more)) = cut_operator(rest) {
-        reading = read_on(reading, quick_atom(variables, factor)?, operator)?;
-        rest = more;
+    loop {
+        let (factor, behind) = quick_atom(variables, rest)?;
+        match behind {
+            [] => return read_last(reading, factor),
+            [operator, more @ ..] => {
+                reading = read_on(reading, factor, *operator)?;
+                rest = more;
+            }
+        }
     }
-    read_last(reading, quick_atom(variables, rest)?)
 }
 
 /// Terms joined by `+` and `-`. It takes no memory.
@@ -375,15 +388,24 @@ fn behind_dot(token: &[u8]) -> Option<&[u8]>
     }
 }
 
+/// Two expressions with two dots between them, of which the first is the byte at this place. It takes no memory.
+#[tactic(auto, unfolding(crate::specs::Sums::bounds))]
+pub fn bounds_at(variables: &[Variable], token: &[u8], at: usize) -> Result<(u64, u64), Wrong>
+    requires { at < length token.now }
+    ensures { result ≡ bounds_at variables.now token.now (Some at) }
+{
+    let high = behind_dot(&token[at + 1..]).ok_or(Wrong::Form)?;
+    both(
+        expression(variables, &token[..at]),
+        expression(variables, high),
+    )
+}
+
 /// Two expressions with two dots between them. It takes no memory.
 #[tactic(auto, unfolding(crate::specs::Sums::bounds))]
 pub fn bounds(variables: &[Variable], token: &[u8]) -> Result<(u64, u64), Wrong>
     ensures { result ≡ bounds variables.now token.now }
 {
     let at = find(token, b'.').ok_or(Wrong::Form)?;
-    let high = behind_dot(&token[at + 1..]).ok_or(Wrong::Form)?;
-    both(
-        expression(variables, &token[..at]),
-        expression(variables, high),
-    )
+    bounds_at(variables, token, at)
 }
