@@ -1,5 +1,5 @@
 //! Texts that contracts see by their bytes.
-ghost use Rattle.std.specs.Prelude.{◌≡◌, IfOk};
+ghost use Rattle.std.specs.Prelude.{◌≡◌, IfOk, string_bytes};
 
 use crate::NoMemory;
 use std::alloc::Global;
@@ -27,6 +27,13 @@ impl Text {
         Ok(Text {
             text: String::from_str(alloc, text)?,
         })
+    }
+
+    /// A text that is there already. It takes no memory.
+    pub fn from_string(text: String) -> Text
+        ensures { result ≡ string_bytes text }
+    {
+        Text { text }
     }
 
     /// The text itself. It takes no memory.

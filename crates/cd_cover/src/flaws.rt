@@ -34,8 +34,8 @@ fn first_uncovered(
     ensures { IfOk result (λ found. IsSomeAnd (node_of program.now.tree.now.domains node) (λ d. IsLeast (uncovered d) found)) }
 {
     cd_tree::laws::the_nested_view_follows_the_list();
-    let ranges = ranges_of(alloc, program.tree.node(node).entries.items())?;
-    let preserved = Places::of(alloc, &ranges)?;
+    let mut ranges = ranges_of(alloc, program.tree.node(node).entries.items())?;
+    let preserved = Places::sorting(alloc, ranges.as_mut_slice())?;
     Ok(first_left_out(&preserved, program.feet.reach(node)))
 }
 

@@ -40,8 +40,9 @@ impl Footprints {
     {
         let count = tree.count();
         let mut feet = no_feet(alloc, count)?;
+        let mut ranges = Vec::new(alloc);
         for id in (0..count).rev() {
-            let foot = foot_of(alloc, tree, NodeId(id), &feet)?;
+            let foot = foot_of(alloc, tree, NodeId(id), &feet, &mut ranges)?;
             feet[id as usize] = foot;
         }
         Ok(Footprints { feet })

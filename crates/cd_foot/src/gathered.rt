@@ -19,19 +19,21 @@ pub(crate) enum Side {
     Writes,
 }
 
-/// The places that a domain has on one side, its members' by their footprints.
+/// The places that a domain has on one side, its members' by their footprints. They are gathered in `ranges`, whose room
+/// serves one domain after another.
 pub(crate) fn places_of(
     alloc: Global,
     side: Side,
     domain: &Domain,
     feet: &[Foot],
+    ranges: &mut Vec<Range>,
 ) -> Result<Places, NoMemory>
     requires { CanGather (length feet.now) domain.now }
     ensures { IfOk result (λ set. (p : Place) → in_ranges set p ≡ in_ranges (gathered side feet.now domain.now) p) }
 {
-    let mut ranges = Vec::new(alloc);
-    add_entries(side, domain.entries.items(), &mut ranges)?;
-    add_items(side, domain.items.items(), feet, &mut ranges)?;
+    ranges.clear();
+    add_entries(side, domain.entries.items(), ranges)?;
+    add_items(side, domain.items.items(), feet, ranges)?;
     let set = Places::sorting(alloc, ranges.as_mut_slice())?;
     Ok(set)
 }

@@ -7,7 +7,7 @@ ghost use Rattle.cd_foot.specs.Gathered.{AreFeetFrom};
 
 use crate::Foot;
 use crate::gathered::{Side, places_of};
-use cd_base::{NoMemory, Places};
+use cd_base::{NoMemory, Places, Range};
 use cd_tree::{NodeId, Tree};
 use std::alloc::Global;
 
@@ -26,12 +26,13 @@ pub(crate) fn no_feet(alloc: Global, count: u32) -> Result<Vec<Foot>, NoMemory>
     Ok(feet)
 }
 
-/// The footprint of a domain, by those of the domains after it.
+/// The footprint of a domain, by those of the domains after it. Its places are gathered in `ranges`.
 pub(crate) fn foot_of(
     alloc: Global,
     tree: &Tree,
     node: NodeId,
     feet: &[Foot],
+    ranges: &mut Vec<Range>,
 ) -> Result<Foot, NoMemory>
     requires tree { IsTree tree.now }
     requires node { node.0 < length tree.now.domains }
@@ -39,8 +40,8 @@ pub(crate) fn foot_of(
     ensures { IfOk result (λ foot. (d : _) → node_of tree.now.domains node ≡ Some d → IsFoot d foot) }
 {
     let domain = tree.node(node);
-    let reads = places_of(alloc, Side::Reads, domain, feet)?;
-    let writes = places_of(alloc, Side::Writes, domain, feet)?;
+    let reads = places_of(alloc, Side::Reads, domain, feet, ranges)?;
+    let writes = places_of(alloc, Side::Writes, domain, feet, ranges)?;
     let reach = Places::of_both(alloc, &reads, &writes)?;
     Ok(Foot {
         reads,

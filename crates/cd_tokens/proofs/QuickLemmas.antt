@@ -6,7 +6,7 @@ use Rattle.std.specs.List.{list_all, onto_first, position, position_or_len, slic
 use Rattle.std.proofs.lemmas.Bool.{or_parts}
 use Rattle.std.proofs.lemmas.Bool.Decides.{nat_tests}
 use Rattle.std.proofs.Math.Seq.{take-length}
-use Rattle.std.proofs.lemmas.List.{append-nil, take-append-drop, take_rest, length-append}
+use Rattle.std.proofs.lemmas.List.{append-nil, take-append-drop, take_rest}
 use Rattle.std.proofs.lemmas.List.Quantifiers.{position-Some}
 use Rattle.cd_tokens.specs.declared.wrong.Wrong.{Wrong}
 use Rattle.cd_tokens.specs.declared.wrong.Wrong.TheVariants.{Form, Overflow}

@@ -11,8 +11,8 @@ use std::alloc::Global;
 use std::fmt::Write;
 use std::marker::Model;
 
-// Room for a name with its number; a longer one asks for more.
-const LONG_NAME: usize = 64;
+// The most digits that a number of 64 bits has.
+const MOST_DIGITS: usize = 20;
 
 /// A part of a statement, or what is wrong with it; an error where there is no memory to keep the part.
 pub type Parsed<T> = Result<Result<T, Wrong>, NoMemory>;
@@ -66,9 +66,10 @@ fn numbered(alloc: Global, base: &[u8], number: u64) -> Result<Text, NoMemory>
     ensures { IfOk result (λ text. text ≡ base.now ++ decimal number) }
 {
     let base = str::from_utf8(base).unwrap();
-    let mut text = String::with_capacity(alloc, LONG_NAME)?;
+    let room = base.len().saturating_add(MOST_DIGITS);
+    let mut text = String::with_capacity(alloc, room)?;
     write!(text, "{base}{number}")?;
-    Text::of(alloc, text.as_str())
+    Ok(Text::from_string(text))
 }
 
 // The names of a path so far, or what is wrong with them.
@@ -126,13 +127,13 @@ impl Names {
         Ok(())
     }
 
-    fn finish(self, alloc: Global) -> Parsed<Text>
-        ensures { IfOk result (λ read. read ≡ self) }
+    fn finish(self) -> Result<Text, Wrong>
+        ensures { result ≡ self }
     {
         let Names { text, wrong } = self;
         match wrong {
-            None => Ok(Ok(Text::of(alloc, text.as_str())?)),
-            Some(wrong) => Ok(Err(wrong)),
+            None => Ok(Text::from_string(text)),
+            Some(wrong) => Err(wrong),
         }
     }
 }
@@ -149,7 +150,7 @@ pub fn path(alloc: Global, variables: &[Variable], token: &[u8]) -> Parsed<Text>
         rest = more;
     }
     path.push(name(alloc, variables, rest)?)?;
-    path.finish(alloc)
+    Ok(path.finish())
 }
 
 /// Whether a text is a base followed by a number in decimal. It takes no memory.

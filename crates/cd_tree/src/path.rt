@@ -17,7 +17,7 @@ pub fn path_text(alloc: Global, tree: &Tree, node: NodeId) -> Result<Text, NoMem
     prove!(node.0 < count);
     let mut path = String::new(alloc);
     add_path(tree, node, &mut path)?;
-    Text::of(alloc, path.as_str())
+    Ok(Text::from_string(path))
 }
 
 /// Puts the path of a domain behind a text.
