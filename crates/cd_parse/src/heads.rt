@@ -12,10 +12,10 @@ ghost use Rattle.cd_parse.specs.Heads.{name_fits, begun, cd_in, short_how, long_
 
 use crate::draft::{Draft, Stage};
 use crate::ranges::Scope;
-use cd_base::{Bytes, Items, NoMemory, Pattern, Place, Range, Text};
+use cd_base::{Items, NoMemory, Pattern, Place, Range, Text};
 use cd_tokens::{
-    Stop, Variable, Wrong, all_hold, both, expression, guard, is_base, kind, kind_set, name, path,
-    pattern, room, text_of,
+    Stop, Token, Variable, Wrong, all_hold, both, expression, guard, is_base, kind, kind_set, name,
+    path, pattern, room, text_of,
 };
 use cd_tree::{
     Domain, Entry, How, Item, Kind, KindName, Kinds, NodeId, Op, RawFault, Region, Which, fits,
@@ -47,7 +47,7 @@ fn three<A: Drop, B: Drop, C: Drop>(
 
 // cd 1, cd 2
 #[tactic(auto, unfolding(crate::specs::Heads::cd_in))]
-pub(crate) fn cd(alloc: Global, draft: &mut Draft, tokens: &[Bytes]) -> Result<(), Stop>
+pub(crate) fn cd(alloc: Global, draft: &mut Draft, tokens: &[Token<'_>]) -> Result<(), Stop>
     ensures { Steps draft.new result (cd_in draft.old tokens.now) }
 {
     match tokens {
@@ -100,7 +100,7 @@ fn kind_name(alloc: Global, name: &str) -> Result<KindName, NoMemory>
 
 // faults
 #[tactic(auto, unfolding(crate::specs::Heads::faults_in))]
-pub(crate) fn faults(draft: &mut Draft, tokens: &[Bytes]) -> Result<(), Stop>
+pub(crate) fn faults(draft: &mut Draft, tokens: &[Token<'_>]) -> Result<(), Stop>
     ensures { Steps draft.new result (faults_in draft.old tokens.now) }
 {
     match tokens {
@@ -117,7 +117,7 @@ pub(crate) fn faults(draft: &mut Draft, tokens: &[Bytes]) -> Result<(), Stop>
 
 // copy, refer, regen PATTERN
 #[tactic(auto, unfolding(crate::specs::Heads::how_in))]
-fn how_in(variables: &[Variable], tokens: &[Bytes]) -> Result<How, Wrong>
+fn how_in(variables: &[Variable], tokens: &[Token<'_>]) -> Result<How, Wrong>
     ensures { result ≡ how_in variables.now tokens.now }
 {
     match tokens {
@@ -141,7 +141,7 @@ fn short_how(token: &[u8]) -> Result<How, Wrong>
 }
 
 // regen PATTERN
-fn long_how(variables: &[Variable], token: &[u8], more: &[Bytes]) -> Result<How, Wrong>
+fn long_how(variables: &[Variable], token: &[u8], more: &[Token<'_>]) -> Result<How, Wrong>
     ensures { result ≡ long_how variables.now token.now more.now }
 {
     if token == b"regen".as_slice() {
@@ -156,7 +156,7 @@ fn long_how(variables: &[Variable], token: &[u8], more: &[Bytes]) -> Result<How,
 pub(crate) fn preserve(
     variables: &[Variable],
     draft: &mut Draft,
-    tokens: &[Bytes],
+    tokens: &[Token<'_>],
 ) -> Result<(), Stop>
     ensures { Steps draft.new result (preserve_in variables.now draft.old tokens.now) }
 {
@@ -196,7 +196,11 @@ fn add_entry(draft: &mut Draft, range: Range, how: How) -> Result<(), Stop>
 
 // kind BASE, kind BASE halt
 #[tactic(auto, unfolding(crate::specs::Heads::kind_in))]
-pub(crate) fn kind_statement(alloc: Global, draft: &mut Draft, tokens: &[Bytes]) -> Result<(), Stop>
+pub(crate) fn kind_statement(
+    alloc: Global,
+    draft: &mut Draft,
+    tokens: &[Token<'_>],
+) -> Result<(), Stop>
     ensures { Steps draft.new result (kind_in draft.old tokens.now) }
 {
     match tokens {
@@ -273,7 +277,7 @@ pub(crate) fn region_statement(
     alloc: Global,
     variables: &[Variable],
     draft: &mut Draft,
-    tokens: &[Bytes],
+    tokens: &[Token<'_>],
 ) -> Result<(), Stop>
     ensures { Steps draft.new result (region_statement variables.now draft.old tokens.now) }
 {
@@ -377,7 +381,7 @@ pub(crate) fn strike(
     alloc: Global,
     variables: &[Variable],
     draft: &mut Draft,
-    tokens: &[Bytes],
+    tokens: &[Token<'_>],
 ) -> Result<(), Stop>
     ensures { Steps draft.new result (strike_in variables.now draft.old tokens.now) }
 {
@@ -454,7 +458,7 @@ pub(crate) fn operation(
     variables: &[Variable],
     draft: &mut Draft,
     keyword: &[u8],
-    rest: &[Bytes],
+    rest: &[Token<'_>],
 ) -> Result<(), Stop>
     requires { HaveRoom draft.old.domains }
     ensures { Steps draft.new result (operation_in variables.now draft.old keyword.now rest.now) }
@@ -473,7 +477,7 @@ pub(crate) fn operation(
 
 // group
 #[tactic(auto, unfolding(crate::specs::Heads::group_in))]
-pub(crate) fn group(alloc: Global, draft: &mut Draft, tokens: &[Bytes]) -> Result<(), Stop>
+pub(crate) fn group(alloc: Global, draft: &mut Draft, tokens: &[Token<'_>]) -> Result<(), Stop>
     ensures { Steps draft.new result (group_in draft.old tokens.now) }
 {
     match tokens {
@@ -490,7 +494,7 @@ pub(crate) fn group(alloc: Global, draft: &mut Draft, tokens: &[Bytes]) -> Resul
 
 // end
 #[tactic(auto, unfolding(crate::specs::Heads::end_in))]
-pub(crate) fn end(draft: &mut Draft, tokens: &[Bytes]) -> Result<(), Stop>
+pub(crate) fn end(draft: &mut Draft, tokens: &[Token<'_>]) -> Result<(), Stop>
     requires { HaveRoom draft.old.domains }
     ensures { Steps draft.new result (end_in draft.old tokens.now) }
 {
@@ -514,7 +518,7 @@ pub(crate) fn domain(
     alloc: Global,
     variables: &[Variable],
     draft: &mut Draft,
-    tokens: &[Bytes],
+    tokens: &[Token<'_>],
 ) -> Result<(), Stop>
     requires { HaveRoom draft.old.domains }
     ensures { Steps draft.new result (domain_in variables.now draft.old tokens.now) }

@@ -4,14 +4,14 @@ ghost use Rattle.cd_parse.specs.Operations.{two_ranges, three_ranges, fill_in, a
 
 use crate::ranges::Scope;
 use crate::signature::OpName;
-use cd_base::{Bytes, Range};
-use cd_tokens::{Variable, Wrong, both, expression};
+use cd_base::Range;
+use cd_tokens::{Token, Variable, Wrong, both, expression};
 use cd_tree::{Op, Region};
 
 impl Scope<'_> {
     // Two ranges.
     #[tactic(auto, unfolding(crate::specs::Operations::two_ranges))]
-    fn two_ranges(self, tokens: &[Bytes]) -> Result<(Range, Range), Wrong>
+    fn two_ranges(self, tokens: &[Token<'_>]) -> Result<(Range, Range), Wrong>
         requires { length self.regions.now < 2 ^ 32 }
         ensures { result ≡ two_ranges self.entry.variables.now self.entry.regions.now tokens.now }
     {
@@ -23,7 +23,7 @@ impl Scope<'_> {
 
     // Three ranges.
     #[tactic(auto, unfolding(crate::specs::Operations::three_ranges))]
-    fn three_ranges(self, tokens: &[Bytes]) -> Result<(Range, (Range, Range)), Wrong>
+    fn three_ranges(self, tokens: &[Token<'_>]) -> Result<(Range, (Range, Range)), Wrong>
         requires { length self.regions.now < 2 ^ 32 }
         ensures { result ≡ three_ranges self.entry.variables.now self.entry.regions.now tokens.now }
     {
@@ -38,7 +38,7 @@ impl Scope<'_> {
 
     // fill D k
     #[tactic(auto, unfolding(crate::specs::Operations::fill_in))]
-    fn fill_in(self, tokens: &[Bytes]) -> Result<Op, Wrong>
+    fn fill_in(self, tokens: &[Token<'_>]) -> Result<Op, Wrong>
         requires { length self.regions.now < 2 ^ 32 }
         ensures { result ≡ fill_in self.entry.variables.now self.entry.regions.now tokens.now }
     {
@@ -56,7 +56,7 @@ impl Scope<'_> {
 
     // axpy D k X
     #[tactic(auto, unfolding(crate::specs::Operations::axpy_in))]
-    fn axpy_in(self, tokens: &[Bytes]) -> Result<Op, Wrong>
+    fn axpy_in(self, tokens: &[Token<'_>]) -> Result<Op, Wrong>
         requires { length self.regions.now < 2 ^ 32 }
         ensures { result ≡ axpy_in self.entry.variables.now self.entry.regions.now tokens.now }
     {
@@ -87,7 +87,7 @@ fn weights(variables: &[Variable], a: &[u8], b: &[u8], c: &[u8]) -> Result<(u64,
 impl Scope<'_> {
     // stencil D a b c X
     #[tactic(auto, unfolding(crate::specs::Operations::stencil_in))]
-    fn stencil_in(self, tokens: &[Bytes]) -> Result<Op, Wrong>
+    fn stencil_in(self, tokens: &[Token<'_>]) -> Result<Op, Wrong>
         requires { length self.regions.now < 2 ^ 32 }
         ensures { result ≡ stencil_in self.entry.variables.now self.entry.regions.now tokens.now }
     {
@@ -117,7 +117,7 @@ fn stencil_of(
 impl Scope<'_> {
     // spmv D S C V X
     #[tactic(auto, unfolding(crate::specs::Operations::spmv_in))]
-    fn spmv_in(self, tokens: &[Bytes]) -> Result<Op, Wrong>
+    fn spmv_in(self, tokens: &[Token<'_>]) -> Result<Op, Wrong>
         requires { length self.regions.now < 2 ^ 32 }
         ensures { result ≡ spmv_in self.entry.variables.now self.entry.regions.now tokens.now }
     {
@@ -195,7 +195,7 @@ fn is_long(keyword: &[u8]) -> bool
 impl Scope<'_> {
     /// The operation of this name and these tokens. It takes no memory.
     #[tactic(auto, unfolding(crate::specs::Operations::op_in))]
-    pub(crate) fn op_in(self, keyword: &[u8], tokens: &[Bytes]) -> Result<Op, Wrong>
+    pub(crate) fn op_in(self, keyword: &[u8], tokens: &[Token<'_>]) -> Result<Op, Wrong>
         requires { length self.regions.now < 2 ^ 32 }
         ensures { result ≡ op_in self.entry.variables.now self.entry.regions.now keyword.now tokens.now }
     {

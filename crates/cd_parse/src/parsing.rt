@@ -10,7 +10,7 @@ ghost use Rattle.cd_parse.specs.Turns.{MayGoOn, read_from, turn_from, loop_as, R
 use crate::draft::Draft;
 use crate::statements::statement;
 use cd_base::{Bytes, NoMemory};
-use cd_tokens::{Line, Role, Variable, Wrong, both, bounds, guard, is_base, lay_out, room};
+use cd_tokens::{Line, Role, Token, Variable, Wrong, both, bounds, guard, is_base, lay_out, room};
 use cd_tree::{Refusal, Refuse, Which, limits};
 use std::alloc::Global;
 
@@ -24,7 +24,12 @@ struct Header<'a> {
 
 // A statement, at its line.
 #[tactic(auto, unfolding(crate::specs::Parsing::taken))]
-fn take(alloc: Global, line: &Line, variables: &[Variable], draft: &mut Draft) -> Result<(), Refuse>
+fn take(
+    alloc: Global,
+    line: &Line<'_>,
+    variables: &[Variable],
+    draft: &mut Draft,
+) -> Result<(), Refuse>
     requires { IsSound draft.old }
     ensures { Reads draft.new result (taken variables.now line.now draft.old) }
 {
@@ -47,7 +52,7 @@ fn is_variable(variables: &[Variable], name: &[u8]) -> bool
 
 // for BASE in E..E
 #[tactic(auto, unfolding(crate::specs::Parsing::loop_in))]
-fn loop_in<'a>(variables: &[Variable], tokens: &'a [Bytes]) -> Result<Header<'a>, Wrong>
+fn loop_in<'a>(variables: &[Variable], tokens: &'a [Token<'a>]) -> Result<Header<'a>, Wrong>
     ensures { ReadsLoop variables.now tokens.now result }
 {
     match tokens {
@@ -147,7 +152,7 @@ fn copy_of(alloc: Global, bytes: &[u8]) -> Result<Bytes, NoMemory>
 #[cycle(parsing)]
 fn block(
     alloc: Global,
-    lines: &[Line],
+    lines: &[Line<'_>],
     after: &[u32],
     from: usize,
     variables: &mut Vec<Variable>,
@@ -184,10 +189,10 @@ fn block(
 #[tactic(auto, unfolding(crate::specs::Parsing::looped))]
 fn repeat(
     alloc: Global,
-    lines: &[Line],
+    lines: &[Line<'_>],
     after: &[u32],
     at: usize,
-    line: &Line,
+    line: &Line<'_>,
     variables: &mut Vec<Variable>,
     draft: &mut Draft,
 ) -> Result<(), Refuse>
@@ -205,7 +210,7 @@ fn repeat(
 #[cycle(parsing)]
 fn all_turns(
     alloc: Global,
-    lines: &[Line],
+    lines: &[Line<'_>],
     after: &[u32],
     from: usize,
     header: Header<'_>,
@@ -236,7 +241,7 @@ fn all_turns(
 #[cycle(parsing)]
 fn turn(
     alloc: Global,
-    lines: &[Line],
+    lines: &[Line<'_>],
     after: &[u32],
     from: usize,
     name: Bytes,

@@ -8,8 +8,7 @@ use crate::draft::Draft;
 use crate::heads::{
     cd, domain, end, faults, group, kind_statement, operation, preserve, region_statement, strike,
 };
-use cd_base::Bytes;
-use cd_tokens::{Stop, Variable, Wrong};
+use cd_tokens::{Stop, Token, Variable, Wrong};
 use std::alloc::Global;
 
 /// A statement of these tokens.
@@ -17,7 +16,7 @@ use std::alloc::Global;
 pub(crate) fn statement(
     alloc: Global,
     variables: &[Variable],
-    tokens: &[Bytes],
+    tokens: &[Token<'_>],
     draft: &mut Draft,
 ) -> Result<(), Stop>
     requires { HaveRoom draft.old.domains }
@@ -36,7 +35,7 @@ fn by_keyword(
     variables: &[Variable],
     draft: &mut Draft,
     keyword: &[u8],
-    rest: &[Bytes],
+    rest: &[Token<'_>],
 ) -> Result<(), Stop>
     requires { HaveRoom draft.old.domains }
     ensures { Steps draft.new result (statement variables.now draft.old keyword.now rest.now) }

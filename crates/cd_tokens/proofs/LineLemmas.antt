@@ -1,8 +1,6 @@
 -- The first line of a text, and where it is cut.
-use Rattle.std.proofs.Common.{◌≡◌, ℕ, suc, ◌+◌, ◌-◌, ◌<◌, ◌≤◌, Bool, true, false, not, cond, nat_lt, List, [], ◌∷◌, length, take, drop, Some, None, refl, sym, ap, ◌∙◌, subst, arith, ◌^◌, map, ltb-true, ltb-false}
+use Rattle.std.proofs.Common.{◌≡◌, ℕ, suc, ◌+◌, ◌-◌, ◌<◌, ◌≤◌, Bool, true, false, not, cond, nat_lt, List, [], ◌∷◌, length, take, drop, Some, None, refl, ap, subst, arith, ◌^◌, ltb-true, ltb-false}
 use Rattle.std.specs.Prelude.{filter, count_by}
-use Rattle.std.specs.Borrow.{Bor}
-use Rattle.std.proofs.lemmas.List.{length-map}
 use Rattle.std.proofs.lemmas.List.Sums.{length-filter, count_by-le-length}
 use Rattle.std.proofs.lemmas.List.Splits.{length-slice_split}
 use Rattle.std.specs.List.{onto_first, position, position_or_len, slice_split}
@@ -56,14 +54,12 @@ pub lines_cut_slice : (xs : List ℕ) (at : ℕ) → position is_feed xs ≡ Som
 lines_cut_slice xs at e = rw (take_rest xs (at + 1)) (lines_cut xs at e)
 
 -- a line has no more tokens than bytes
-pub few_pieces : (xs ys : List (Bor (List ℕ))) (said line : List ℕ) → ys ≡ xs
-    → map (λ (token : Bor (List ℕ)). token.now) xs ≡ filter is_token (slice_split is_blank said)
-    → length said ≤ length line → length line ≤ 1048576 → length ys < 2 ^ 31
-few_pieces xs ys said line e f h k =
-    let a : length xs ≡ length (filter is_token (slice_split is_blank said)) =
-    sym (length-map xs (λ (token : Bor (List ℕ)). token.now)) ∙ ap length f in
+pub few_pieces : (tokens : List (List ℕ)) (said line : List ℕ) → tokens ≡ filter is_token (slice_split is_blank said)
+    → length said ≤ length line → length line ≤ 1048576 → length tokens < 2 ^ 32
+few_pieces tokens said line f h k =
+    let a : length tokens ≡ length (filter is_token (slice_split is_blank said)) = ap length f in
     let b : length (filter is_token (slice_split is_blank said)) ≡ count_by is_token (slice_split is_blank said) = length-filter is_token (slice_split is_blank said) in
     let d : count_by is_token (slice_split is_blank said) ≤ length (slice_split is_blank said) = count_by-le-length is_token (slice_split is_blank said) in
     let g : length (slice_split is_blank said) ≡ count_by is_blank said + 1 = length-slice_split is_blank said in
     let i : count_by is_blank said ≤ length said = count_by-le-length is_blank said in
-    rw e (omega arith)
+    omega arith

@@ -6,9 +6,9 @@ ghost use Rattle.cd_tokens.specs.Blocks.{no_marks, closed, mark, mark_line, clos
 ghost use Rattle.cd_tokens.specs.Steps.{Steps, Gives};
 ghost use Rattle.cd_tokens.specs.Layouts.{LaysOut, LaysOutLines, Marked, MarkedAs, Goes, IsTable};
 
-use crate::lines::{Line, Role, cut_line, tokens};
+use crate::lines::{Line, Role, Token, cut_line, tokens};
 use crate::wrong::{Stop, Wrong};
-use cd_base::{Bytes, Items, NoMemory};
+use cd_base::{Items, NoMemory};
 use cd_tree::Refuse;
 use std::alloc::{AllocError, Global};
 use std::marker::Model;
@@ -16,8 +16,8 @@ use std::marker::Model;
 /// The lines of a text that have tokens; for each of them, and for the end, at which of them the block around it goes
 /// on; and how many lines the text has.
 #[derive(Drop)]
-pub struct Layout {
-    pub lines: Items<Line>,
+pub struct Layout<'t> {
+    pub lines: Items<Line<'t>>,
     pub after: Items<u32>,
     pub count: u32,
 }
@@ -25,12 +25,12 @@ pub struct Layout {
 // What the lines so far have come to: those that have tokens, and for each block that is open, the outermost first,
 // whether it is a loop.
 #[derive(Drop)]
-struct Marking {
-    lines: Items<Line>,
+struct Marking<'t> {
+    lines: Items<Line<'t>>,
     before: Vec<bool>,
 }
 
-impl Model for Marking {
+impl<'t> Model for Marking<'t> {
     ghost use Rattle.std.specs.Prelude.{reverse};
     ghost use Rattle.cd_tokens.specs.Blocks.{Marks};
 
@@ -40,7 +40,7 @@ impl Model for Marking {
 }
 
 /// The layout of a text, or the refusal of the first line that opens or closes a block wrongly.
-pub fn lay_out(alloc: Global, bytes: &[u8]) -> Result<Layout, Refuse>
+pub fn lay_out(alloc: Global, bytes: &[u8]) -> Result<Layout<'_>, Refuse>
     requires { length bytes.now ≤ text_limit }
     ensures { LaysOut bytes.now result }
 {
@@ -61,9 +61,9 @@ pub fn lay_out(alloc: Global, bytes: &[u8]) -> Result<Layout, Refuse>
     }
 }
 
-fn laid_out(alloc: Global, lines: Items<Line>, count: u32) -> Result<Layout, Refuse>
+fn laid_out(alloc: Global, lines: Items<Line<'_>>, count: u32) -> Result<Layout<'_>, Refuse>
     requires { length lines ≤ text_limit }
-    ensures { LaysOutLines lines count result }
+    ensures { LaysOutLines lines.entry count result }
 {
     match table(alloc, lines.items()) {
         Ok(after) => Ok(Layout {
@@ -75,8 +75,8 @@ fn laid_out(alloc: Global, lines: Items<Line>, count: u32) -> Result<Layout, Ref
     }
 }
 
-impl Marking {
-    fn new(alloc: Global) -> Marking
+impl<'t> Marking<'t> {
+    fn new(alloc: Global) -> Marking<'t>
         ensures { result ≡ no_marks }
     {
         Marking {
@@ -86,7 +86,7 @@ impl Marking {
     }
 
     // One line more.
-    fn take(&mut self, alloc: Global, number: u32, line: &[u8]) -> Result<(), Stop>
+    fn take(&mut self, alloc: Global, number: u32, line: &'t [u8]) -> Result<(), Stop>
         requires line { length line.now ≤ text_limit }
         requires few { length self.old.lines + 1 < 2 ^ 32 }
         ensures { Steps self.new result (mark_line number (tokens line.now) self.old) }
@@ -95,9 +95,9 @@ impl Marking {
         self.put(number, tokens)
     }
 
-    fn put(&mut self, number: u32, tokens: Items<Bytes>) -> Result<(), Stop>
+    fn put(&mut self, number: u32, tokens: Items<Token<'t>>) -> Result<(), Stop>
         requires few { length self.old.lines + 1 < 2 ^ 32 }
-        ensures { Steps self.new result (mark_line number tokens self.old) }
+        ensures { Steps self.new result (mark_line number tokens.entry self.old) }
     {
         let role = match tokens.items() {
             [] => return Ok(()),
@@ -112,8 +112,8 @@ impl Marking {
     }
 
     // Behind the last line.
-    fn finish(self) -> Result<Items<Line>, Stop>
-        ensures { Gives result (closed_lines self.lines self.before) }
+    fn finish(self) -> Result<Items<Line<'t>>, Stop>
+        ensures { Gives result (closed_lines self.entry.lines self.entry.before) }
     {
         let Marking { lines, before } = self;
         if before.is_empty() {
@@ -125,7 +125,7 @@ impl Marking {
 }
 
 // The role of a line with these tokens, where it may stand, and the blocks that are open behind it.
-fn role(before: &mut Vec<bool>, keyword: &[u8], rest: &[Bytes]) -> Result<Role, Stop>
+fn role(before: &mut Vec<bool>, keyword: &[u8], rest: &[Token<'_>]) -> Result<Role, Stop>
     ensures { Marked (reverse before.old.items) keyword.now rest.now (reverse before.new.items) result }
 {
     if keyword == b"for".as_slice() {
@@ -142,7 +142,7 @@ fn role(before: &mut Vec<bool>, keyword: &[u8], rest: &[Bytes]) -> Result<Role, 
 }
 
 // The role of an `end` with these tokens behind it.
-fn close(before: &mut Vec<bool>, rest: &[Bytes]) -> Result<Role, Stop>
+fn close(before: &mut Vec<bool>, rest: &[Token<'_>]) -> Result<Role, Stop>
     ensures { MarkedAs (closed (reverse before.old.items) rest.now) (reverse before.new.items) result }
 {
     if !rest.is_empty() {
@@ -156,7 +156,7 @@ fn close(before: &mut Vec<bool>, rest: &[Bytes]) -> Result<Role, Stop>
 }
 
 // For each line, and for the end, where the block around it goes on.
-fn table(alloc: Global, lines: &[Line]) -> Result<Items<u32>, NoMemory>
+fn table(alloc: Global, lines: &[Line<'_>]) -> Result<Items<u32>, NoMemory>
     requires { length lines.now ≤ text_limit }
     ensures { IfOk result (λ after. IsTable lines.now after 0) }
 {
@@ -171,7 +171,7 @@ fn table(alloc: Global, lines: &[Line]) -> Result<Items<u32>, NoMemory>
 }
 
 // Where the block around a line goes on, where that is known of all lines behind it.
-fn next(lines: &[Line], after: &[u32], at: usize) -> u32
+fn next(lines: &[Line<'_>], after: &[u32], at: usize) -> u32
     requires few { length lines.now ≤ text_limit }
     requires at { at < length lines.now }
     requires table { IsTable lines.now after.now (at + 1) }

@@ -4,9 +4,10 @@ ghost use Rattle.std.specs.List.{slice_split};
 ghost use Rattle.cd_tree.specs.KindSets.{no_kinds};
 ghost use Rattle.cd_tokens.specs.Kinds.{kind, one_more_kind, with_kind_named, kind_set, short_pattern, long_pattern, pattern};
 
+use crate::lines::Token;
 use crate::sums::{Variable, cut, expression};
 use crate::wrong::{Wrong, both};
-use cd_base::{Bytes, Pattern};
+use cd_base::Pattern;
 use cd_tree::{Kind, KindName, Kinds, limits};
 
 /// The kind with this name. It takes no memory.
@@ -64,7 +65,7 @@ pub fn kind_set(kinds: &[KindName], token: &[u8]) -> Result<Kinds, Wrong>
 
 /// A pattern of these tokens. It takes no memory.
 #[tactic(auto, unfolding(crate::specs::Kinds::pattern))]
-pub fn pattern(variables: &[Variable], tokens: &[Bytes]) -> Result<Pattern, Wrong>
+pub fn pattern(variables: &[Variable], tokens: &[Token<'_>]) -> Result<Pattern, Wrong>
     ensures { result ≡ pattern variables.now tokens.now }
 {
     match tokens {

@@ -18,7 +18,7 @@ mod wrong;
 
 pub use blocks::{Layout, lay_out};
 pub use kinds::{kind, kind_set, pattern};
-pub use lines::{Line, Role};
+pub use lines::{Line, Role, Token};
 pub use names::{is_numbered, name, path, text_of};
 pub use sums::{Variable, bounds, bounds_at, cut, expression, find, is_base};
 pub use written::{add_kinds, kind_name, kinds_text, place_text, region_name};
